@@ -1,0 +1,1 @@
+// Theory that knows no machine: see specs/. There is no code here.
