@@ -1,0 +1,62 @@
+-- `lock::look` meets its contract.
+use mathlib.Core.Path.{sym}
+use native.Mathlib.Omega.{arith}
+use Rattle.lock.specs.Looks.{looks-early, looks-served, looks-first}
+use Rattle.lock.specs.Arrays.{wait-at}
+use borrow.Author.Needs.{needs}
+use Rattle.lock.proofs.look.Statement.{statement}
+use Rattle.lock.proofs.look.Tie as tie
+
+slot-requires : tie.Need-slot-requires
+slot-requires c κs = search needs
+
+mul-if1 : tie.Need-mul-if1
+mul-if1 c = search needs
+
+shared-slice-read-if1 : tie.Need-shared-slice-read-if1
+shared-slice-read-if1 c = search needs
+
+returns : tie.Need-returns
+returns c head tail registrations =
+    let start = c .before .before .before .before .before .before in
+    let slot = c .before .before .slot in
+    sym (looks-early (start .args .slots) _ (start .args .ticket .0) (start .args .worker .0) (omega (arith, c .if1 .taken, wait-at (start .args .slots) (start .args .ticket .0) (slot .result) (start .args .wait .now) (slot .ensures .0) (slot .ensures .1) (start .pre .1))))
+
+mul-if2 : tie.Need-mul-if2
+mul-if2 c = search needs
+
+shared-slice-read-if2 : tie.Need-shared-slice-read-if2
+shared-slice-read-if2 c = search needs
+
+mul-t16 : tie.Need-mul-t16
+mul-t16 c = search needs
+
+shared-slice-read-t18 : tie.Need-shared-slice-read-t18
+shared-slice-read-t18 c = search needs
+
+returns-2 : tie.Need-returns-2
+returns-2 c head tail registrations =
+    let start = c .before .before .before .before .before .before .before .before .before in
+    let slot = c .before .before .before .before .before .slot in
+    sym (looks-served (start .args .slots) _ (start .args .ticket .0) (start .args .worker .0) (omega (arith, c .before .before .before .if1 .left, wait-at (start .args .slots) (start .args .ticket .0) (slot .result) (start .args .wait .now) (slot .ensures .0) (slot .ensures .1) (start .pre .1))) (c .before .if2 .taken))
+
+returns-3 : tie.Need-returns-3
+returns-3 c head tail registrations =
+    let start = c .before .before .before .before .before .before .before .before in
+    let slot = c .before .before .before .before .slot in
+    sym (looks-first (start .args .slots) _ (start .args .ticket .0) (start .args .worker .0) (omega (arith, c .before .before .if1 .left, wait-at (start .args .slots) (start .args .ticket .0) (slot .result) (start .args .wait .now) (slot .ensures .0) (slot .ensures .1) (start .pre .1))) (c .if2 .left))
+
+pub look-spec : {M : Type 1} → statement M
+look-spec =
+    tie.close
+    (tie.spec
+    slot-requires
+    mul-if1
+    shared-slice-read-if1
+    returns
+    mul-if2
+    shared-slice-read-if2
+    mul-t16
+    shared-slice-read-t18
+    returns-2
+    returns-3)
