@@ -1,0 +1,4 @@
+pub mod Basics
+pub mod Fields
+pub mod Faults
+pub mod Halves

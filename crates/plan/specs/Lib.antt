@@ -1,0 +1,7 @@
+pub mod Text
+pub mod Plan
+pub mod Line
+pub mod Reading
+pub mod Orders
+pub mod Accepted
+pub mod PassFields

@@ -1,0 +1,30 @@
+-- `plan_c::salfunye_check` meets its contract: by the two answers.
+-- Assumes nothing.
+use mathlib.Core.Path.{sym, ap, _∙_}
+use Rattle.plan_c.specs.Numbers.{inNumbers}
+use borrow.Author.Needs.{needs}
+use Rattle.plan_c.proofs.salfunye_check.Statement.{statement}
+use Rattle.plan_c.proofs.salfunye_check.Tie as tie
+
+check-requires : tie.Need-check-requires
+check-requires c κs = search needs
+
+enum-told : tie.Need-enum-told
+enum-told c = search needs
+
+enum-known-checked : tie.Need-enum-known-checked
+enum-known-checked c = search needs
+
+number-of-requires : tie.Need-number-of-requires
+number-of-requires c κs = search needs
+
+returns : tie.Need-returns
+returns c = ap inNumbers (sym (c .enum-told .given .1) ∙ c .before .before .check .ensures)
+
+returns-2 : tie.Need-returns-2
+returns-2 c = rw (c .number-of .ensures) (ap inNumbers (sym (c .before .before .checked .given .1) ∙ c .before .before .before .before .check .ensures))
+
+pub salfunye-check-spec : {M : Type 1} → statement M
+salfunye-check-spec =
+    tie.close
+    (tie.spec check-requires enum-told enum-known-checked number-of-requires returns returns-2)

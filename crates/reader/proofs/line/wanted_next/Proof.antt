@@ -1,0 +1,84 @@
+-- `reader::line::wanted_next` meets its contract: by the kind of the line.
+-- Assumes nothing.
+use borrow.Author.Tests.{ne-eqb}
+use mathlib.Core.Path.{_∙_}
+use borrow.Author.Needs.{needs}
+use Rattle.reader.proofs.line.wanted_next.Statement.{statement}
+use Rattle.reader.proofs.line.wanted_next.Tie as tie
+
+enum-told : tie.Need-enum-told
+enum-told c = search needs
+
+enum-told-2 : tie.Need-enum-told-2
+enum-told-2 c = search needs
+
+number-if-requires : tie.Need-number-if-requires
+number-if-requires c κs = search needs
+
+enum-told-3 : tie.Need-enum-told-3
+enum-told-3 c = search needs
+
+returns : tie.Need-returns
+returns c = rw (c .before .enum-told3 .given .1, c .if1 .taken)
+
+enum-told-4 : tie.Need-enum-told-4
+enum-told-4 c = search needs
+
+number-if-requires-2 : tie.Need-number-if-requires-2
+number-if-requires-2 c κs = search needs
+
+enum-told-5 : tie.Need-enum-told-5
+enum-told-5 c = search needs
+
+number-if-requires-3 : tie.Need-number-if-requires-3
+number-if-requires-3 c κs = search needs
+
+enum-told-6 : tie.Need-enum-told-6
+enum-told-6 c = search needs
+
+number-if-requires-4 : tie.Need-number-if-requires-4
+number-if-requires-4 c κs = search needs
+
+returns-2 : tie.Need-returns-2
+returns-2 c = search needs
+
+returns-3 : tie.Need-returns-3
+returns-3 c = c .number-if .ensures ∙ rw (c .before .enum-told2 .given .1)
+
+returns-4 : tie.Need-returns-4
+returns-4 c = rw (c .before .before .enum-told3 .given .1, c .if2 .taken)
+
+returns-5 : tie.Need-returns-5
+returns-5 c = rw (c .before .before .enum-told3 .given .1) (simp (ne-eqb _ _ (c .before .if1 .left), ne-eqb _ _ (c .if2 .left)))
+
+returns-6 : tie.Need-returns-6
+returns-6 c = c .number-if2 .ensures ∙ rw (c .before .enum-told4 .given .1)
+
+returns-7 : tie.Need-returns-7
+returns-7 c = c .number-if3 .ensures ∙ rw (c .before .enum-told5 .given .1)
+
+returns-8 : tie.Need-returns-8
+returns-8 c = c .number-if4 .ensures ∙ rw (c .before .enum-told6 .given .1)
+
+pub wanted-next-spec : {M : Type 1} → statement M
+wanted-next-spec =
+    tie.close
+    (tie.spec
+    enum-told
+    enum-told-2
+    number-if-requires
+    enum-told-3
+    returns
+    enum-told-4
+    number-if-requires-2
+    enum-told-5
+    number-if-requires-3
+    enum-told-6
+    number-if-requires-4
+    returns-2
+    returns-3
+    returns-4
+    returns-5
+    returns-6
+    returns-7
+    returns-8)

@@ -1,0 +1,4 @@
+pub mod PassLines
+pub mod PassTexts
+pub mod PassOrders
+pub mod Verdict
