@@ -1,0 +1,13 @@
+pub mod Accesses
+pub mod Flags
+pub mod State
+pub mod Event
+pub mod Step
+pub mod Trace
+pub mod Whereabouts
+pub mod View
+pub mod Played
+pub mod Figures
+pub mod Safety
+pub mod Progress
+pub mod WholeRuns

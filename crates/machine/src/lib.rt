@@ -1,0 +1,1 @@
+// The step machine: definitions in specs/. There is no code here.
