@@ -1,0 +1,12 @@
+-- Every run moves.
+pub mod Leading
+pub mod Waiting
+pub mod Work
+pub mod TaskWork
+pub mod Quiet
+pub mod Creating
+pub mod Helpful
+pub mod Nearing
+pub mod Somebody
+pub mod Finishing
+pub mod Tight
