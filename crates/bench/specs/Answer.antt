@@ -1,0 +1,81 @@
+-- What the bench answers: the check of a text, a run of it, and what both leave in store and output.
+use Prim.Native.Nat.{ℕ, _^_, _-_}
+use mathlib.Core.Bool.{true, false}
+use mathlib.Core.List.{List, [], _∷_, _++_}
+use lib.ListN.{length, replicate, drop}
+use lib.Dec.{ltb}
+use Rattle.plan.specs.declared.Refusal.{Refusal}
+use Rattle.plan.specs.declared.Refusal.the-variants.{TextTooLong, StoreTooShort, OutputTooShort}
+use Rattle.plan.specs.Text.{bytes, decimal, line}
+use Rattle.plan.specs.Plan.{Plan}
+use Rattle.plan.specs.Reading.{Reading, accepted, refused, reading, number, isTooLong}
+use Rattle.plan.specs.Orders.{picksUpTo}
+use Rattle.reader.specs.declared.Checked.{Checked}
+use Rattle.reader.specs.Verdict.{verdict}
+use Rattle.machine.specs.State.{Setup, State}
+use Rattle.machine.specs.Step.{after}
+use Rattle.report.specs.Report.{report}
+
+-- a ring of 64 slots, queues of 8
+abbrev pub setupOf : Plan → Setup
+setupOf p = record { workers = p .workers; slots = 64; capacity = 8; tasks = p .tasks }
+
+-- the state that a run of a plan reaches
+abbrev pub reached : Plan → ℕ → State
+reached p limit = after (setupOf p) (picksUpTo limit p)
+
+abbrev pub reportOf : Plan → ℕ → List ℕ
+reportOf p limit = report (setupOf p) (reached p limit)
+
+-- the answer of a check
+abbrev pub check : List ℕ → Checked
+check text = verdict (reading text)
+
+-- the answer of a run: the picks taken and the length of the report, or a refusal and its line
+pub data Answer : Type 0 where
+  reports : ℕ → ℕ → Answer
+  refuses : Refusal → ℕ → Answer
+
+pub record Outcome : Type 0 where
+  pub answer : Answer
+  pub store : List ℕ
+  pub output : List ℕ
+
+abbrev pub storeSize : ℕ
+storeSize = 8192
+
+module _ (limit : ℕ) (store output : List ℕ) where
+  -- the store as a run leaves it: its first 8,192 numbers end as 0
+  abbrev pub cleared : List ℕ
+  cleared = replicate storeSize 0 ++ drop storeSize store
+
+  abbrev pub refusal : Refusal → ℕ → List ℕ → Outcome
+  refusal r n left = record { answer = refuses r n; store = left; output = output }
+
+  -- the report is written where the output is long enough
+  unfoldable pub written : ℕ → List ℕ → Outcome
+  written picks bs =
+      elim (ltb (length output) (length bs)) [
+        | true ↦ refusal OutputTooShort 0 cleared
+        | false ↦ record { answer = reports picks (length bs); store = cleared; output = bs ++ drop (length bs) output }
+      ]
+
+  unfoldable pub played : Reading → Outcome
+  played (accepted p) = written (reached p limit .picks) (reportOf p limit)
+  played (refused r n) = refusal r n cleared
+
+  -- the whole answer of a run of a text
+  unfoldable pub run : List ℕ → Outcome
+  run text =
+      elim (isTooLong text) [
+        | true ↦ refusal TextTooLong 0 store
+        | false ↦ elim (ltb (length store) storeSize) [ true ↦ refusal StoreTooShort 0 store | false ↦ played (reading text) ]
+      ]
+
+-- what the program prints for a text: the report, or one line
+unfoldable pub printedFor : Reading → List ℕ
+printedFor (accepted p) = reportOf p (2 ^ 64 - 1)
+printedFor (refused r n) = line (bytes "X" ∷ decimal (number r) ∷ decimal n ∷ [])
+
+abbrev pub printed : List ℕ → List ℕ
+printed text = printedFor (reading text)

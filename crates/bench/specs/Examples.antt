@@ -1,0 +1,61 @@
+-- The paper's starred examples, as a table and one theorem over it.
+use Prim.Native.Nat.{ℕ, _^_, _-_}
+use Prim.Native.String.{String}
+use mathlib.Core.Path.{_≡_, refl}
+use mathlib.Core.List.{List, [], _∷_, map}
+use lib.ListN.{length}
+use Rattle.plan.specs.Text.{bytes}
+use Rattle.plan.specs.Reading.{Reading, accepted, refused, reading}
+use Rattle.plan.specs.Orders.{numbersFrom, picksUpTo}
+use Rattle.machine.specs.Accesses.{accesses}
+use Rattle.machine.specs.Flags.{flagNumber}
+use Rattle.bench.specs.Answer.{reached, printed}
+use Rattle.bench.specs.Computed.{computed}
+
+-- a plan text, and what the paper says of it
+pub data Example : Type 0 where
+  -- the program prints this
+  prints : String → String → Example
+  -- the accesses have these flags in the end
+  sets : String → List ℕ → Example
+  -- these workers are picked
+  picks : String → List ℕ → Example
+
+-- the flags after the whole order, and the picks of the order; none for a text that is refused
+unfoldable pub flagsFor : Reading → List ℕ
+flagsFor (accepted p) = map (λ a. flagNumber (reached p (2 ^ 64 - 1) .flags a)) (numbersFrom 0 (length (accesses (p .tasks))))
+flagsFor (refused r n) = []
+
+unfoldable pub picksFor : Reading → List ℕ
+picksFor (accepted p) = picksUpTo (2 ^ 64 - 1) p
+picksFor (refused r n) = []
+
+abbrev pub Holds : Example → Type 0
+Holds (prints text answer) = printed (bytes text) ≡ bytes answer
+Holds (sets text flags) = flagsFor (reading (bytes text)) ≡ flags
+Holds (picks text workers) = picksFor (reading (bytes text)) ≡ workers
+
+abbrev pub AllHold : List Example → Type 0
+AllHold [] = Unit {0}
+AllHold (e ∷ es) = Holds e × AllHold es
+
+abbrev pub starred : List Example
+starred =
+    prints "" "X\t3\t1\n"
+    ∷ prints "W\t0\n" "X\t2\t1\n"
+    ∷ prints "W\t1\n" "E\tfinished\t0\nL\t64\t65\t-\n"
+    ∷ prints "W\t1\nT\ta\t0\n" "E\topen\t0\nT\t0\ta\tnew\t-\t-\t-\nL\t64\t65\t-\n"
+    ∷ prints "W\t1\nT\ta\t0\nR\t20\n" "E\tfinished\t10\nT\t0\ta\tover\t0\t8\t10\nL\t65\t66\t-\n"
+    ∷ prints "W\t2\nT\ta\t0\nP\t1\t3\nP\t0\t5\nP\t1\t4\nP\t0\t2\n" "E\tfinished\t14\nT\t0\ta\tover\t0\t13\t14\nL\t66\t66\t1\n"
+    ∷ prints "W\t2\nT\ta\t0\nP\t1\t3\n" "E\topen\t3\nT\t0\ta\tnew\t-\t-\t-\nL\t65\t65\t1\n"
+    ∷ prints "W\t2\nT\ta\t0\nP\t1\t7\n" "E\topen\t7\nT\t0\ta\tnew\t-\t-\t-\nL\t65\t66\t-\n"
+    ∷ picks "W\t4\nS\t0\t1\n" (2 ∷ [])
+    ∷ prints "W\t1\nT\ta\t0\tr5\tr5\n" "X\t5\t2\n"
+    ∷ prints "W\t1\nT\ta\t0\tr1\tr2\tr3\tr4\tr1\n" "X\t4\t2\n"
+    ∷ sets "W\t1\nT\ta\t0\tw5\nT\tb\t0\tr5\nR\t60\n" (63 ∷ 7 ∷ [])
+    ∷ []
+
+-- each of them holds, by computation
+pub examples : AllHold starred
+unfolding computed flagsFor picksFor
+examples = (refl, (refl, (refl, (refl, (refl, (refl, (refl, (refl, (refl, (refl, (refl, (refl, tt))))))))))))

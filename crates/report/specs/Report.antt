@@ -1,0 +1,82 @@
+-- The report of a state, byte for byte.
+use Prim.Native.Nat.{ℕ, suc}
+use mathlib.Core.Bool.{Bool, true, false, cond}
+use mathlib.Core.List.{List, [], _∷_, _++_}
+use mathlib.Core.Option.{Option, none, some}
+use Rattle.plan.specs.Text.{bytes, decimal, line}
+use Rattle.plan.specs.Plan.{Task}
+use Rattle.machine.specs.Accesses.{lastBelow}
+use Rattle.machine.specs.State.{Setup, Place, idle, notifying, trying, registering, looking, draining, serving, handing, leaving, working, Status, new, waiting, ready, held, running, over, State}
+use Rattle.machine.specs.Step.{finished}
+
+-- a field that is not yet known
+abbrev pub unknown : List ℕ
+unknown = bytes "-"
+
+abbrev pub statusName : Status → List ℕ
+statusName new = bytes "new"
+statusName waiting = bytes "waiting"
+statusName ready = bytes "ready"
+statusName held = bytes "held"
+statusName running = bytes "run"
+statusName over = bytes "over"
+
+-- worker and receipt appear from run on
+abbrev pub fromRunOn : Status → ℕ → List ℕ
+fromRunOn new n = unknown
+fromRunOn waiting n = unknown
+fromRunOn ready n = unknown
+fromRunOn held n = unknown
+fromRunOn running n = decimal n
+fromRunOn over n = decimal n
+
+abbrev pub whenOver : Status → ℕ → List ℕ
+whenOver new n = unknown
+whenOver waiting n = unknown
+whenOver ready n = unknown
+whenOver held n = unknown
+whenOver running n = unknown
+whenOver over n = decimal n
+
+-- an owner's place: from the look or try that wins until it hands over and leaves
+abbrev pub isOwner : Place → Bool
+isOwner idle = false
+isOwner (notifying a f) = false
+isOwner trying = false
+isOwner (registering t) = false
+isOwner (looking t) = false
+isOwner (draining p k) = true
+isOwner (serving n) = true
+isOwner (handing n) = true
+isOwner (leaving o) = true
+isOwner (working i n) = false
+
+abbrev pub numberOrNone : Option ℕ → List ℕ
+numberOrNone none = unknown
+numberOrNone (some n) = decimal n
+
+module _ (c : Setup) (s : State) where
+  -- at most one worker owns
+  unfoldable pub owner : Option ℕ
+  owner = lastBelow (λ w. isOwner (s .place w)) (c .workers)
+
+  abbrev pub outcomeLine : List ℕ
+  outcomeLine = line (bytes "E" ∷ cond (finished c s) (bytes "finished") (bytes "open") ∷ decimal (s .picks) ∷ [])
+
+  abbrev pub taskLine : ℕ → Task → List ℕ
+  taskLine i t =
+      line (
+      bytes "T" ∷ decimal i ∷ t .label ∷ statusName (s .status i)
+      ∷ fromRunOn (s .status i) (s .runner i) ∷ fromRunOn (s .status i) (s .receipt i) ∷ whenOver (s .status i) (s .ending i) ∷ []
+      )
+
+  -- the lines of the tasks from number i on
+  unfoldable pub taskLines : ℕ → List Task → List ℕ
+  taskLines i [] = []
+  taskLines i (t ∷ ts) = taskLine i t ++ taskLines (suc i) ts
+
+  abbrev pub lockLine : List ℕ
+  lockLine = line (bytes "L" ∷ decimal (s .lock .head) ∷ decimal (s .lock .tail) ∷ numberOrNone owner ∷ [])
+
+  unfoldable pub report : List ℕ
+  report = outcomeLine ++ taskLines 0 (c .tasks) ++ lockLine
