@@ -1,0 +1,187 @@
+//! compare COUNT SEED: has the proof checker compute the bench's definitions on COUNT random plans
+//! and holds each whole answer (report or refusal, picks, store, output) to this implementation's.
+
+use second::random::Rng;
+use second::{random, run};
+use std::fmt::Write as _;
+use std::path::{Path, PathBuf};
+use std::process::{exit, Command};
+
+const REFUSALS: [&str; 8] = [
+    "Malformed",
+    "OutOfRange",
+    "Misplaced",
+    "TooMany",
+    "AddressTwice",
+    "TextTooLong",
+    "StoreTooShort",
+    "OutputTooShort",
+];
+const STORE: usize = 8192;
+const IN_STORE: u64 = 7;
+const IN_OUTPUT: u8 = 255;
+
+/// One call of the run function: the caller's side of it is drawn beside the plan.
+struct Call {
+    text: Vec<u8>,
+    limit: u64,
+    store: usize,
+    output: usize,
+}
+
+fn draw(seed: u64) -> Call {
+    let text = random::sample(seed);
+    let mut rng = Rng::new(seed ^ 0x5eed);
+    let limit = if rng.below(2) == 0 {
+        u64::MAX
+    } else {
+        rng.below(200)
+    };
+    let store = match rng.below(12) {
+        0 => STORE - 1,
+        1 => 0,
+        n => STORE + n as usize % 3,
+    };
+    let report = run::answer_bytes(&text, limit).len();
+    let output = match rng.below(8) {
+        0 => report - 1,
+        1 => report,
+        n => report + n as usize,
+    };
+    Call {
+        text,
+        limit,
+        store,
+        output,
+    }
+}
+
+fn list<T: std::fmt::Display>(values: &[T], fill: Option<(usize, u64)>) -> String {
+    let mut out = String::new();
+    for v in values {
+        let _ = write!(out, "{v} ∷ ");
+    }
+    out.push_str("[]");
+    match fill {
+        Some((n, v)) => format!("({out}) ++ replicate {n} {v}"),
+        None => out,
+    }
+}
+
+/// The theorem that the definition gives for this call what this implementation gives.
+fn theorem(seed: u64) -> String {
+    let call = draw(seed);
+    let mut store = vec![IN_STORE; call.store];
+    let mut output = vec![IN_OUTPUT; call.output];
+    let answer = match run::run(&call.text, call.limit, &mut store, &mut output) {
+        Ok(done) => format!("reports {} {}", done.picks, done.length),
+        Err(no) => format!(
+            "refuses {} {}",
+            REFUSALS[no.number as usize - 1],
+            no.line
+        ),
+    };
+    let zeros = store.iter().take_while(|&&n| n == 0).count();
+    let written = output
+        .iter()
+        .rposition(|&b| b != IN_OUTPUT)
+        .map_or(0, |i| i + 1);
+    format!(
+        "seed-{seed} : run {} (replicate {} {IN_STORE}) (replicate {} {IN_OUTPUT}) ({})\n    ≡ record {{ answer = {answer}; store = replicate {zeros} 0 ++ replicate {} {IN_STORE}; output = {} }}\nunfolding computed run written played\nseed-{seed} = refl\n\n",
+        call.limit,
+        call.store,
+        call.output,
+        list(&call.text, None),
+        call.store - zeros,
+        list(&output[..written], Some((call.output - written, IN_OUTPUT.into()))),
+    )
+}
+
+fn module(first: u64, count: u64) -> String {
+    let mut out = String::from(
+        "use mathlib.Core.Path.{_≡_, refl}\nuse mathlib.Core.List.{[], _∷_, _++_}\nuse lib.ListN.{replicate}\n",
+    );
+    let _ = writeln!(
+        out,
+        "use Rattle.plan.specs.declared.Refusal.the-variants.{{{}}}",
+        REFUSALS.join(", ")
+    );
+    out.push_str("use Rattle.bench.specs.Answer.{run, written, played, reports, refuses}\nuse Rattle.bench.specs.Computed.{computed}\n\n");
+    for seed in first..first + count {
+        out.push_str(&theorem(seed));
+    }
+    out
+}
+
+fn copy(from: &Path, to: &Path) {
+    let done = Command::new("cp").arg("-R").arg(from).arg(to).status();
+    if !matches!(done, Ok(s) if s.success()) {
+        eprintln!("cannot copy {}", from.display());
+        exit(2);
+    }
+}
+
+/// A repository beside the real one, with the same crates, what is proved of them, and one crate of theorems.
+fn lay_out(root: &Path, text: &str) -> std::io::Result<PathBuf> {
+    let room = root.join("target/compare");
+    let _ = std::fs::remove_dir_all(&room);
+    std::fs::create_dir_all(room.join("target"))?;
+    copy(&root.join("crates"), &room);
+    for part in ["rlib", "stamp"] {
+        let proved = root.join("target").join(part);
+        if proved.exists() {
+            copy(&proved, &room.join("target"));
+        }
+    }
+    let listed = std::fs::read_to_string(root.join("crates.txt"))?;
+    std::fs::write(
+        room.join("crates.txt"),
+        format!("{listed}\ncompared: plan bench\n"),
+    )?;
+    let compared = room.join("crates/compared");
+    std::fs::create_dir_all(compared.join("src"))?;
+    std::fs::create_dir_all(compared.join("specs"))?;
+    std::fs::write(compared.join("src/lib.rt"), "// Theorems alone.\n")?;
+    std::fs::write(compared.join("specs/Lib.antt"), text)?;
+    Ok(room)
+}
+
+fn main() {
+    let words: Vec<u64> = std::env::args()
+        .skip(1)
+        .filter_map(|w| w.parse().ok())
+        .collect();
+    let [count, seed] = words[..] else {
+        eprintln!("usage: compare COUNT SEED");
+        exit(2);
+    };
+    let root = Path::new(env!("CARGO_MANIFEST_DIR")).join("..");
+    let room = match lay_out(&root, &module(seed, count)) {
+        Ok(room) => room,
+        Err(e) => {
+            eprintln!("compare: {e}");
+            exit(2);
+        }
+    };
+    let done = Command::new("rt")
+        .args(["check", "compared"])
+        .current_dir(&room)
+        .output();
+    let Ok(done) = done else {
+        eprintln!("compare: rt cannot be run");
+        exit(2);
+    };
+    if done.status.success() {
+        println!("compare: {count} plans from seed {seed}, no difference");
+    } else {
+        print!(
+            "{}{}",
+            String::from_utf8_lossy(&done.stdout),
+            String::from_utf8_lossy(&done.stderr)
+        );
+        println!(
+            "compare: the definitions and the second implementation differ, or the check failed"
+        );
+        exit(1);
+    }
+}

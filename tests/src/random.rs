@@ -1,0 +1,205 @@
+//! Random plan texts, accepted and damaged ones.
+
+mod damage;
+mod draft;
+mod rng;
+mod sample;
+
+pub use damage::damaged;
+pub use rng::Rng;
+pub use sample::sample;
+
+use crate::plan::TEXT_LIMIT;
+use draft::{addresses, join, line, order_line, Line, OrderSize, Pattern, Tasks};
+
+#[derive(Clone, Copy, Debug, PartialEq, Eq)]
+pub enum Shape {
+    /// 1 to 4 workers and up to 6 tasks; up to 14 where a queue is to be full.
+    Small,
+    /// Up to 12 workers and 40 tasks.
+    Medium,
+    /// 32 workers and 128 tasks.
+    Large,
+    /// A text of 65,536 bytes or a few less.
+    Full,
+}
+
+/// A text that is accepted.
+pub fn plan(rng: &mut Rng, shape: Shape) -> Vec<u8> {
+    match shape {
+        Shape::Small => join(&small(rng)),
+        Shape::Medium => join(&medium(rng)),
+        Shape::Large => join(&large(rng)),
+        Shape::Full => full(rng),
+    }
+}
+
+fn small(rng: &mut Rng) -> Vec<Line> {
+    let workers = rng.between(1, 4);
+    let (pattern, count) = match rng.below(12) {
+        0 | 1 => (Pattern::Fan, rng.between(10, 14)),
+        2 | 3 => (Pattern::Burst, rng.between(9, 14)),
+        4 => (Pattern::Chain, rng.between(1, 6)),
+        _ => (Pattern::Mixed, rng.between(0, 6)),
+    };
+    let pool = rng.between(1, 3) as usize;
+    let tasks = Tasks {
+        count,
+        pattern,
+        addresses: &addresses(rng, pool),
+        max_cost: rng.choose(&[0, 1, 3]),
+        max_label: 4,
+    };
+    let mut lines = vec![line(&[&"W", &workers])];
+    lines.extend(tasks.lines(rng));
+    if count > 8 || rng.one_in(4) {
+        lines.extend(opening(rng, workers));
+    }
+    let size = OrderSize {
+        repeat: 12,
+        rounds: 8,
+        seeded: 40,
+    };
+    for _ in 0..rng.below(9) {
+        lines.push(order_line(rng, workers, size));
+    }
+    if rng.one_in(2) {
+        lines.push(line(&[&"R", &rng.between(1, 300)]));
+    }
+    lines
+}
+
+/// Worker 0 creates alone for a while, perhaps with the last one in its way: so a
+/// queue gets full, and the try of the lock wins or fails.
+fn opening(rng: &mut Rng, workers: u64) -> Vec<Line> {
+    let mut lines = Vec::new();
+    if rng.one_in(2) {
+        lines.push(line(&[&"P", &(workers - 1), &rng.between(1, 3)]));
+    }
+    lines.push(line(&[&"P", &0, &rng.between(20, 60)]));
+    // Then the last one alone: after a fan's writer the readers are its to add.
+    if rng.one_in(2) {
+        lines.push(line(&[&"P", &(workers - 1), &rng.between(30, 80)]));
+    }
+    lines
+}
+
+fn medium(rng: &mut Rng) -> Vec<Line> {
+    let workers = rng.between(1, 12);
+    let pattern = rng.choose(&[
+        Pattern::Mixed,
+        Pattern::Mixed,
+        Pattern::Mixed,
+        Pattern::Fan,
+        Pattern::Burst,
+    ]);
+    let pool = rng.between(1, 8) as usize;
+    let tasks = Tasks {
+        count: rng.between(0, 40),
+        pattern,
+        addresses: &addresses(rng, pool),
+        max_cost: rng.choose(&[0, 3, 20, 100]),
+        max_label: 16,
+    };
+    let mut lines = vec![line(&[&"W", &workers])];
+    lines.extend(tasks.lines(rng));
+    if rng.one_in(3) {
+        lines.extend(opening(rng, workers));
+    }
+    let size = OrderSize {
+        repeat: 60,
+        rounds: 40,
+        seeded: 600,
+    };
+    for _ in 0..rng.below(25) {
+        lines.push(order_line(rng, workers, size));
+    }
+    if rng.one_in(2) {
+        lines.push(line(&[&"R", &rng.between(1, 4_000)]));
+    }
+    lines
+}
+
+fn large(rng: &mut Rng) -> Vec<Line> {
+    let mut lines = large_tasks(rng, 32);
+    let size = OrderSize {
+        repeat: 4_096,
+        rounds: 500,
+        seeded: 20_000,
+    };
+    for _ in 0..rng.between(10, 60) {
+        lines.push(order_line(rng, 32, size));
+    }
+    if rng.one_in(2) {
+        lines.push(longest_line(rng));
+    }
+    lines
+}
+
+/// The W line and 128 tasks.
+fn large_tasks(rng: &mut Rng, workers: u64) -> Vec<Line> {
+    let pool = rng.choose(&[1, 4, 20, 200]);
+    let pattern = rng.choose(&[
+        Pattern::Mixed,
+        Pattern::Mixed,
+        Pattern::Mixed,
+        Pattern::Fan,
+        Pattern::Burst,
+    ]);
+    let tasks = Tasks {
+        count: 128,
+        pattern,
+        addresses: &addresses(rng, pool),
+        max_cost: rng.choose(&[0, 10, 100, 1_000]),
+        max_label: 16,
+    };
+    let mut lines = vec![line(&[&"W", &workers])];
+    lines.extend(tasks.lines(rng));
+    lines
+}
+
+/// A line with the largest count; a run all but surely finishes within it.
+fn longest_line(rng: &mut Rng) -> Line {
+    if rng.one_in(2) {
+        line(&[&"R", &1_000_000])
+    } else {
+        line(&[&"S", &draft::seed(rng), &1_000_000])
+    }
+}
+
+fn full(rng: &mut Rng) -> Vec<u8> {
+    let workers = rng.between(1, 32);
+    let mut text = join(&large_tasks(rng, workers));
+    let size = TEXT_LIMIT - rng.choose(&[0, 0, 0, 1, 2, 3]);
+    fill(rng, &mut text, workers, size);
+    text
+}
+
+/// Order lines up to exactly `size` bytes, where at least 4 bytes are left.
+fn fill(rng: &mut Rng, text: &mut Vec<u8>, workers: u64, size: usize) {
+    let style = rng.below(4);
+    while text.len() + 40 < size {
+        let order = match style {
+            0 => line(&[&"R", &1]),
+            1 => line(&[&"S", &u64::MAX, &rng.between(1, 100)]),
+            2 => line(&[&"P", &(workers - 1), &rng.between(1, 4_096)]),
+            _ => order_line(
+                rng,
+                workers,
+                OrderSize {
+                    repeat: 4_096,
+                    rounds: 9,
+                    seeded: 99,
+                },
+            ),
+        };
+        text.extend(join(&[order]));
+    }
+    while text.len() + 8 <= size {
+        text.extend(b"R\t1\n");
+    }
+    let last = ["R\t1\n", "R\t10\n", "R\t100\n", "R\t1000\n"];
+    if let Some(line) = last.iter().find(|line| text.len() + line.len() == size) {
+        text.extend(line.bytes());
+    }
+}

@@ -1,0 +1,349 @@
+//! Texts with faults: in a field, in a line, in the order of lines, in the bytes
+//! and in the size. Most are refused; a harmless change is kept as it is.
+
+use super::draft::{access, is_task, join, line, order_line, Field, Line, OrderSize};
+use super::{fill, medium, small, Rng};
+use crate::plan::{TASK_LIMIT, TEXT_LIMIT};
+
+/// A damaged text of any size.
+pub fn damaged(rng: &mut Rng) -> Vec<u8> {
+    match rng.below(24) {
+        0 => noise(rng),
+        1 => Vec::new(),
+        2..=4 => sized(rng),
+        5 => long_field(rng),
+        6 | 7 => bytes_only(rng),
+        _ => {
+            let mut lines = if rng.one_in(4) {
+                medium(rng)
+            } else {
+                small(rng)
+            };
+            faults(rng, &mut lines, true);
+            let mut text = join(&lines);
+            if rng.one_in(8) {
+                damage_bytes(rng, &mut text);
+            }
+            text
+        }
+    }
+}
+
+/// One fault, or two in the same line or in any lines. `large` allows such that
+/// make a text long.
+pub fn faults(rng: &mut Rng, lines: &mut Vec<Line>, large: bool) {
+    let at = rng.index(lines.len());
+    fault(rng, lines, at, large);
+    match rng.below(5) {
+        0 => fault(rng, lines, at, large),
+        1 => {
+            let other = rng.index(lines.len());
+            fault(rng, lines, other, large);
+        }
+        _ => {}
+    }
+}
+
+/// A fault near the line `at`; kinds that need a task line look for one.
+fn fault(rng: &mut Rng, lines: &mut Vec<Line>, at: usize, large: bool) {
+    // An earlier fault may have taken a line away.
+    let at = at.min(lines.len() - 1);
+    match rng.below(12) {
+        0 | 1 => field_form(rng, &mut lines[at]),
+        2 => line_form(rng, lines, at),
+        3 | 4 => range(rng, lines, at),
+        5 | 6 => place(rng, lines, at),
+        7 if large => too_many_tasks(rng, lines),
+        7 | 8 => too_many_accesses(rng, lines, at),
+        9 | 10 => address_twice(rng, lines, at),
+        _ => limit_reached(rng, lines, at),
+    }
+}
+
+/// Spoils the form of one field.
+fn field_form(rng: &mut Rng, line: &mut Line) {
+    let at = rng.index(line.len());
+    let field = &mut line[at];
+    match rng.below(14) {
+        0 => field.insert(0, b'0'),
+        1 => field.clear(),
+        2 => field.insert(0, b' '),
+        3 => field.push(b' '),
+        4 => field.push(b'\r'),
+        5 => field.insert(0, b'+'),
+        6 => field.insert(0, b'-'),
+        7 => insert(rng, field, b'x'),
+        8 => insert(rng, field, b'.'),
+        9 => *field = b"00".to_vec(),
+        10 => {
+            *field = rng
+                .choose(&[&b"X"[..], b"w", b"t", b"TT", b"E", b"M"])
+                .to_vec()
+        }
+        11 => {
+            *field = rng
+                .choose(&[&b"r"[..], b"w", b"a5", b"R5", b"r05", b"rw5", b"5"])
+                .to_vec()
+        }
+        12 => *field = vec![b'a'; rng.between(15, 18) as usize],
+        _ => {
+            let byte = rng.byte();
+            insert(rng, field, byte);
+        }
+    }
+}
+
+fn insert(rng: &mut Rng, field: &mut Field, byte: u8) {
+    let at = rng.index(field.len() + 1);
+    field.insert(at, byte);
+}
+
+/// Too few or too many fields, or no field at all.
+fn line_form(rng: &mut Rng, lines: &mut Vec<Line>, at: usize) {
+    match rng.below(5) {
+        0 => lines[at].push(b"1".to_vec()),
+        1 => lines[at].push(Vec::new()),
+        2 => lines[at].truncate(1),
+        3 => {
+            lines[at].pop();
+        }
+        _ => lines.insert(at, vec![Vec::new()]),
+    }
+    if lines[at].is_empty() {
+        lines[at].push(Vec::new());
+    }
+}
+
+/// Puts one number of the line just outside of its range.
+fn range(rng: &mut Rng, lines: &mut [Line], at: usize) {
+    let workers = workers_of(lines);
+    let over_64_bits = "18446744073709551616".to_string();
+    let line = &mut lines[at];
+    let length = line.len();
+    let (field, value) = match (line[0].as_slice(), length) {
+        (b"W", 2) => (1, rng.choose(&["0", "33"]).to_string()),
+        (b"T", 3) => (2, "1001".to_string()),
+        (b"T", 4..) if rng.one_in(2) => {
+            let kind = rng.choose(&["r", "w"]);
+            (3 + rng.index(length - 3), format!("{kind}65536"))
+        }
+        (b"T", 4..) => (2, "1001".to_string()),
+        (b"P", 3) if rng.one_in(2) => (1, workers.to_string()),
+        (b"P", 3) => (2, rng.choose(&["0", "4097"]).to_string()),
+        (b"R", 2) => (1, rng.choose(&["0", "1000001"]).to_string()),
+        (b"S", 3) if rng.one_in(2) => (1, over_64_bits),
+        (b"S", 3) => (2, rng.choose(&["0", "1000001"]).to_string()),
+        _ => (length - 1, over_64_bits),
+    };
+    line[field] = value.into_bytes();
+}
+
+/// Puts one number of the line at the end of its range: no fault, but a close one.
+fn limit_reached(rng: &mut Rng, lines: &mut [Line], at: usize) {
+    let workers = workers_of(lines);
+    let line = &mut lines[at];
+    match (line[0].as_slice(), line.len()) {
+        (b"T", 3..) => line[2] = rng.choose(&[&b"0"[..], b"1000"]).to_vec(),
+        (b"P", 3) => line[1] = (workers.max(1) - 1).to_string().into_bytes(),
+        (b"S", 3) => line[1] = u64::MAX.to_string().into_bytes(),
+        _ => {}
+    }
+}
+
+/// The number in the first line's second field, 1 where there is none.
+fn workers_of(lines: &[Line]) -> u64 {
+    let field = lines.first().and_then(|line| line.get(1));
+    let text = field.and_then(|field| std::str::from_utf8(field).ok());
+    text.and_then(|text| text.parse().ok()).unwrap_or(1)
+}
+
+/// A line where it may not stand.
+fn place(rng: &mut Rng, lines: &mut Vec<Line>, at: usize) {
+    match rng.below(6) {
+        0 => {
+            lines.remove(0);
+            if lines.is_empty() {
+                lines.push(line(&[&"R", &1]));
+            }
+        }
+        1 => lines.insert(at + 1, line(&[&"W", &rng.choose(&[1, 2, 32, 33, 99])])),
+        2 => lines.push(line(&[&"T", &"late", &rng.choose(&[0, 1_000, 1_001])])),
+        3 => lines.insert(at, line(&[&"R", &rng.choose(&[1, 2])])),
+        4 => {
+            let other = rng.index(lines.len());
+            lines.swap(at, other);
+        }
+        _ => {
+            let doubled = lines[at].clone();
+            lines.insert(at, doubled);
+        }
+    }
+}
+
+/// The task line at or after `at`, else any; one is put in where there is none.
+fn task_line(lines: &mut Vec<Line>, at: usize) -> &mut Line {
+    let found = (at..lines.len()).chain(0..at).find(|&i| is_task(&lines[i]));
+    let index = found.unwrap_or_else(|| {
+        let second = lines.len().min(1);
+        lines.insert(second, line(&[&"T", &"in", &0]));
+        second
+    });
+    &mut lines[index]
+}
+
+fn too_many_tasks(rng: &mut Rng, lines: &mut Vec<Line>) {
+    let count = lines.iter().filter(|line| is_task(line)).count();
+    let wanted = TASK_LIMIT + rng.choose(&[0, 1, 1, 2]);
+    let after = lines.iter().rposition(is_task).unwrap_or(0);
+    let mut added = vec![line(&[&"T", &"more", &0]); wanted.saturating_sub(count)];
+    if let Some(last) = added.last_mut() {
+        match rng.below(6) {
+            0 => last[2] = b"1001".to_vec(),
+            1 => last.extend([b"r5".to_vec(), b"w5".to_vec()]),
+            _ => {}
+        }
+    }
+    let at = (after + 1).min(lines.len());
+    lines.splice(at..at, added);
+}
+
+fn too_many_accesses(rng: &mut Rng, lines: &mut Vec<Line>, at: usize) {
+    let wanted = 3 + rng.choose(&[4, 5, 5, 6, 9]);
+    let task = task_line(lines, at);
+    while task.len() < wanted {
+        task.push(access(rng.one_in(2), rng.below(12)));
+    }
+    // The last one may have a fault that comes first.
+    if rng.one_in(4) {
+        let last = task.len() - 1;
+        task[last] = rng
+            .choose(&[&b"r65536"[..], b"w65536", b"x1", b"r", b""])
+            .to_vec();
+    }
+}
+
+fn address_twice(rng: &mut Rng, lines: &mut Vec<Line>, at: usize) {
+    let task = task_line(lines, at);
+    task.truncate(3 + rng.index(4));
+    let address = rng.choose(&[0, 5, 65_535, 65_535, 65_536]);
+    for _ in 0..rng.choose(&[2, 2, 2, 3]) {
+        let place = rng.between(3.min(task.len() as u64), task.len() as u64) as usize;
+        task.insert(place, access(rng.one_in(2), address));
+    }
+}
+
+/// A number of 40,000 digits, or a label of so many letters.
+fn long_field(rng: &mut Rng) -> Vec<u8> {
+    let mut lines = small(rng);
+    let at = rng.index(lines.len());
+    let field = rng.index(lines[at].len());
+    let filler = rng.choose(b"019a");
+    let mut long = vec![filler; 40_000];
+    long[0] = rng.choose(b"019rwa");
+    lines[at][field] = long;
+    if rng.one_in(4) {
+        let other = rng.index(lines.len());
+        fault(rng, &mut lines, other, false);
+    }
+    join(&lines)
+}
+
+fn bytes_only(rng: &mut Rng) -> Vec<u8> {
+    let mut text = join(&small(rng));
+    for _ in 0..rng.between(1, 2) {
+        damage_bytes(rng, &mut text);
+    }
+    text
+}
+
+/// Cuts, doubles, inserts, replaces or removes bytes.
+pub fn damage_bytes(rng: &mut Rng, text: &mut Vec<u8>) {
+    if text.is_empty() {
+        return;
+    }
+    let at = rng.index(text.len());
+    match rng.below(10) {
+        0 => text.truncate(at),
+        1 => text.insert(at, text[at]),
+        2 => {
+            let end = (at + rng.between(2, 12) as usize).min(text.len());
+            let part = text[at..end].to_vec();
+            text.splice(at..at, part);
+        }
+        3 => text.insert(at, rng.byte()),
+        4 => text[at] = rng.byte(),
+        5 => remove_one(rng, text, b'\t'),
+        6 => remove_one(rng, text, b'\n'),
+        7 => {
+            text.pop();
+        }
+        8 => {
+            if let Some(tab) = nth(rng, text, b'\t') {
+                text[tab] = b' ';
+            }
+        }
+        _ => {
+            if let Some(end) = nth(rng, text, b'\n') {
+                text.insert(end, b'\r');
+            }
+        }
+    }
+}
+
+/// The index of a random occurrence of a byte.
+fn nth(rng: &mut Rng, text: &[u8], byte: u8) -> Option<usize> {
+    let found: Vec<usize> = (0..text.len()).filter(|&at| text[at] == byte).collect();
+    if found.is_empty() {
+        None
+    } else {
+        Some(rng.choose(&found))
+    }
+}
+
+fn remove_one(rng: &mut Rng, text: &mut Vec<u8>, byte: u8) {
+    if let Some(at) = nth(rng, text, byte) {
+        text.remove(at);
+    }
+}
+
+/// Random bytes, from all 256 or from those that plans are made of.
+fn noise(rng: &mut Rng) -> Vec<u8> {
+    const USUAL: &[u8] = b"WTPRS\t\n\t\n0123rw5-a";
+    let all = rng.one_in(2);
+    let length = rng.between(1, 60);
+    (0..length)
+        .map(|_| if all { rng.byte() } else { rng.choose(USUAL) })
+        .collect()
+}
+
+/// Texts around the largest size.
+fn sized(rng: &mut Rng) -> Vec<u8> {
+    let size = TEXT_LIMIT - 1 + rng.choose(&[0, 1, 2, 2, 2, 2]);
+    if rng.one_in(6) {
+        return vec![rng.choose(b"W\n\t0"); size];
+    }
+    let mut lines = small(rng);
+    if rng.one_in(4) {
+        faults(rng, &mut lines, false);
+    }
+    let workers = workers_of(&lines).clamp(1, 32);
+    let mut text = join(&lines);
+    fill(rng, &mut text, workers, size);
+    if rng.one_in(8) {
+        // A fault at the very end, the size kept.
+        let end = order_line(
+            rng,
+            workers + 1,
+            OrderSize {
+                repeat: 1,
+                rounds: 1,
+                seeded: 1,
+            },
+        );
+        let end = join(&[end]);
+        let keep = text.len() - end.len();
+        text.truncate(keep);
+        text.extend(end);
+    }
+    text
+}

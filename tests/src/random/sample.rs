@@ -1,0 +1,123 @@
+//! Small texts that a slow interpreter can compute too.
+
+use super::damage::{damage_bytes, faults};
+use super::draft::{join, line, seed, Line, Pattern, Tasks};
+use super::Rng;
+use crate::plan::check;
+
+/// The largest sample: bytes, picks of the order lines, workers, tasks, cost.
+const BYTES: usize = 400;
+const PICKS: u64 = 300;
+const WORKERS: u64 = 6;
+const TASKS: usize = 14;
+const COST: u64 = 3;
+
+/// The sample of a seed; about one in six is damaged.
+pub fn sample(seed: u64) -> Vec<u8> {
+    let rng = &mut Rng::new(seed);
+    let spoil = rng.one_in(6);
+    loop {
+        let mut lines = sound(rng);
+        if spoil && !rng.one_in(4) {
+            faults(rng, &mut lines, false);
+        }
+        let mut text = join(&lines);
+        if spoil && rng.one_in(4) {
+            damage_bytes(rng, &mut text);
+        }
+        // Few harmless changes are wanted.
+        let harmless = spoil && check(&text).is_ok() && !rng.one_in(6);
+        if text.len() <= BYTES && quick(&text) && !harmless {
+            return text;
+        }
+    }
+}
+
+/// Refused, or soon computed: a change may have raised a number.
+fn quick(text: &[u8]) -> bool {
+    check(text).map_or(true, |plan| {
+        let picks: u64 = plan
+            .orders
+            .iter()
+            .map(|order| order.picks(plan.workers))
+            .sum();
+        picks <= PICKS
+            && plan.workers <= WORKERS
+            && plan.tasks.len() <= TASKS
+            && plan.tasks.iter().all(|task| task.cost <= COST)
+    })
+}
+
+fn sound(rng: &mut Rng) -> Vec<Line> {
+    let (pattern, count, workers) = match rng.below(8) {
+        0 | 1 => (Pattern::Burst, rng.between(9, 14), rng.between(2, 3)),
+        2 => (Pattern::Fan, rng.between(2, 8), rng.between(1, 4)),
+        3 => (Pattern::Chain, rng.between(1, 5), rng.between(1, 3)),
+        4 => (Pattern::Burst, rng.between(0, 8), rng.between(1, 6)),
+        _ => (Pattern::Mixed, rng.between(0, 8), rng.between(1, 6)),
+    };
+    let pool: &[u64] = if rng.one_in(2) {
+        &[5, 7]
+    } else {
+        &[5, 65_535, 0]
+    };
+    let tasks = Tasks {
+        count,
+        pattern,
+        addresses: pool,
+        max_cost: rng.between(0, COST),
+        max_label: 3,
+    };
+    let mut lines = vec![line(&[&"W", &workers])];
+    lines.extend(tasks.lines(rng));
+    lines.extend(orders(rng, workers, count > 8));
+    lines
+}
+
+/// Order lines within the budget of picks. With many tasks worker 0 comes first,
+/// so that its queue gets full.
+fn orders(rng: &mut Rng, workers: u64, many_tasks: bool) -> Vec<Line> {
+    let mut left = if rng.one_in(3) {
+        rng.between(0, 80)
+    } else {
+        PICKS
+    };
+    let mut lines = Vec::new();
+    let mut spend = |lines: &mut Vec<Line>, line: Line, picks: u64| {
+        if picks <= left {
+            left -= picks;
+            lines.push(line);
+        }
+    };
+    if many_tasks {
+        if rng.one_in(2) {
+            let times = rng.between(1, 3);
+            spend(&mut lines, line(&[&"P", &(workers - 1), &times]), times);
+        }
+        let times = rng.between(27, 45);
+        spend(&mut lines, line(&[&"P", &0, &times]), times);
+    }
+    for _ in 0..rng.below(6) {
+        match rng.below(3) {
+            0 => {
+                let times = rng.between(1, 20);
+                spend(
+                    &mut lines,
+                    line(&[&"P", &rng.below(workers), &times]),
+                    times,
+                );
+            }
+            1 => {
+                let rounds = rng.between(1, 15);
+                spend(&mut lines, line(&[&"R", &rounds]), rounds * workers);
+            }
+            _ => {
+                let times = rng.between(1, 60);
+                spend(&mut lines, line(&[&"S", &seed(rng), &times]), times);
+            }
+        }
+    }
+    let rounds = rng.between(1, 60);
+    spend(&mut lines, line(&[&"R", &rounds]), rounds * workers);
+    lines
+}

@@ -1,0 +1,70 @@
+//! The report's bytes.
+
+use std::fmt::Display;
+
+use crate::machine::{Machine, State};
+use crate::plan::{Plan, Refusal};
+
+/// The report of a machine's state; labels are shown from the plan text.
+pub fn report(text: &[u8], plan: &Plan, machine: &Machine) -> Vec<u8> {
+    let mut out = Vec::new();
+    let end = if machine.finished() {
+        "finished"
+    } else {
+        "open"
+    };
+    line(&mut out, &[&"E", &end, &machine.picks]);
+    for (number, (task, record)) in plan.tasks.iter().zip(&machine.tasks).enumerate() {
+        let label = String::from_utf8_lossy(task.label.of(text));
+        line(
+            &mut out,
+            &[
+                &"T",
+                &number,
+                &label,
+                &state_name(record.state),
+                &or_dash(record.worker),
+                &or_dash(record.receipt),
+                &or_dash(record.ending),
+            ],
+        );
+    }
+    line(
+        &mut out,
+        &[
+            &"L",
+            &machine.lock.head,
+            &machine.lock.tail,
+            &or_dash(machine.owner),
+        ],
+    );
+    out
+}
+
+/// The line that a program prints for a refusal.
+pub fn refusal_line(refusal: Refusal) -> Vec<u8> {
+    let mut out = Vec::new();
+    line(&mut out, &[&"X", &refusal.number, &refusal.line]);
+    out
+}
+
+pub fn state_name(state: State) -> &'static str {
+    match state {
+        State::New => "new",
+        State::Waiting => "waiting",
+        State::Ready => "ready",
+        State::Held => "held",
+        State::Run => "run",
+        State::Over => "over",
+    }
+}
+
+fn or_dash<T: Display>(value: Option<T>) -> String {
+    value.map_or("-".to_string(), |value| value.to_string())
+}
+
+fn line(out: &mut Vec<u8>, fields: &[&dyn Display]) {
+    let fields: Vec<String> = fields.iter().map(|field| field.to_string()).collect();
+    out.extend(fields.join("\t").bytes());
+    out.push(b'\n');
+}

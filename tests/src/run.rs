@@ -1,0 +1,65 @@
+//! Running a plan text with a pick limit, a store and an output.
+
+use crate::machine::{Machine, CAPACITY, SLOTS};
+use crate::order::Picks;
+use crate::plan::{callers, check, refusal, Plan, Refusal, TEXT_LIMIT};
+use crate::report::{refusal_line, report};
+
+/// Numbers that the store must have.
+pub const STORE_SIZE: usize = 8_192;
+
+#[derive(Clone, Copy, Debug, PartialEq, Eq)]
+pub struct Reported {
+    pub picks: u64,
+    pub length: usize,
+}
+
+/// Runs a text. The store is only cleared: this implementation keeps its state
+/// elsewhere, and what the store ends with is all that can be seen of it.
+pub fn run(
+    text: &[u8],
+    limit: u64,
+    store: &mut [u64],
+    output: &mut [u8],
+) -> Result<Reported, Refusal> {
+    if text.len() > TEXT_LIMIT {
+        return Err(callers(refusal::TEXT_SIZE));
+    }
+    if store.len() < STORE_SIZE {
+        return Err(callers(refusal::STORE_SIZE));
+    }
+    store[..STORE_SIZE].fill(0);
+    let plan = check(text)?;
+    let machine = play(&plan, limit, SLOTS, CAPACITY);
+    let bytes = report(text, &plan, &machine);
+    if output.len() < bytes.len() {
+        return Err(callers(refusal::OUTPUT_SIZE));
+    }
+    output[..bytes.len()].copy_from_slice(&bytes);
+    Ok(Reported {
+        picks: machine.picks,
+        length: bytes.len(),
+    })
+}
+
+/// The state after the plan's order: stops at the limit, the end of the order
+/// or when finished.
+pub fn play(plan: &Plan, limit: u64, slots: usize, capacity: usize) -> Machine {
+    let mut machine = Machine::new(plan, slots, capacity);
+    let mut picks = Picks::new(plan);
+    while machine.picks < limit && !machine.finished() {
+        match picks.next() {
+            Some(worker) => machine.step(worker),
+            None => break,
+        }
+    }
+    machine
+}
+
+/// What the program prints: the report, or the line of the refusal.
+pub fn answer_bytes(text: &[u8], limit: u64) -> Vec<u8> {
+    match check(text) {
+        Ok(plan) => report(text, &plan, &play(&plan, limit, SLOTS, CAPACITY)),
+        Err(refusal) => refusal_line(refusal),
+    }
+}

@@ -1,0 +1,205 @@
+//! The random plans are what they are said to be, and hit what matters.
+
+use std::collections::BTreeMap;
+
+use second::machine::{Counters, Machine, Place, CAPACITY, SLOTS};
+use second::order::Picks;
+use second::plan::{check, Order, Plan};
+use second::random::{damaged, plan, sample, Rng, Shape};
+use second::run::play;
+
+fn texts(shape: Shape, count: usize, seed: u64) -> Vec<Vec<u8>> {
+    let rng = &mut Rng::new(seed);
+    (0..count).map(|_| plan(rng, shape)).collect()
+}
+
+fn played(plan: &Plan) -> Machine {
+    play(plan, u64::MAX, SLOTS, CAPACITY)
+}
+
+/// Plays step by step; tells too whether a worker other than 0 tried the lock.
+fn watched(plan: &Plan) -> (Machine, bool) {
+    let mut machine = Machine::new(plan, SLOTS, CAPACITY);
+    let mut other_tried = false;
+    for worker in Picks::new(plan) {
+        if machine.finished() {
+            break;
+        }
+        other_tried |= worker > 0 && machine.workers[worker].place == Place::TryLock;
+        machine.step(worker);
+    }
+    (machine, other_tried)
+}
+
+/// Whether the run got as far as a seeded line.
+fn reached_seeded(plan: &Plan, picks: u64) -> bool {
+    let mut before = 0;
+    plan.orders.iter().any(|order| {
+        let reached = matches!(order, Order::Seeded { .. }) && picks > before;
+        before += order.picks(plan.workers);
+        reached
+    })
+}
+
+/// In how many runs each thing happened.
+#[derive(Default, Debug)]
+struct Seen(BTreeMap<&'static str, usize>);
+
+impl Seen {
+    fn add(&mut self, name: &'static str, happened: bool) {
+        *self.0.entry(name).or_default() += usize::from(happened);
+    }
+
+    fn add_run(&mut self, plan: &Plan, machine: &Machine) {
+        let Counters {
+            full_queue,
+            tries_won,
+            tries_failed,
+            passes,
+            notices,
+            served,
+            own_receipts,
+            cell_receipts,
+        } = machine.counters;
+        self.add("full queue", full_queue > 0);
+        self.add("try won", tries_won > 0);
+        self.add("try failed", tries_failed > 0);
+        self.add("pass message", passes > 0);
+        self.add("notice", notices > 0);
+        self.add("served", served > 0);
+        self.add("receipt by the owner", own_receipts > 0);
+        self.add("receipt from a cell", cell_receipts > 0);
+        self.add("seeded pick", reached_seeded(plan, machine.picks));
+        self.add(
+            "finished with tasks",
+            machine.finished() && !plan.tasks.is_empty(),
+        );
+        self.add("open", !machine.finished());
+    }
+
+    fn each_at_least(&self, count: usize) {
+        for (name, &runs) in &self.0 {
+            assert!(runs >= count, "{name}: {runs} runs; {self:?}");
+        }
+    }
+}
+
+#[test]
+fn same_seed_same_text() {
+    for shape in [Shape::Small, Shape::Medium, Shape::Large, Shape::Full] {
+        assert_eq!(texts(shape, 3, 9), texts(shape, 3, 9));
+    }
+    assert_eq!(damaged(&mut Rng::new(4)), damaged(&mut Rng::new(4)));
+    assert_eq!(sample(4), sample(4));
+}
+
+#[test]
+fn shapes_are_accepted() {
+    for (shape, count) in [
+        (Shape::Small, 2_000),
+        (Shape::Medium, 1_000),
+        (Shape::Large, 60),
+        (Shape::Full, 60),
+    ] {
+        for text in texts(shape, count, 3) {
+            let plan = check(&text).unwrap_or_else(|refusal| panic!("{shape:?}: {refusal:?}"));
+            match shape {
+                Shape::Small => assert!(plan.workers <= 4 && plan.tasks.len() <= 14),
+                Shape::Medium => assert!(plan.workers <= 12 && plan.tasks.len() <= 40),
+                Shape::Large => assert!(plan.workers == 32 && plan.tasks.len() == 128),
+                Shape::Full => assert!(text.len() >= 65_533),
+            }
+        }
+    }
+    assert!(texts(Shape::Full, 60, 3)
+        .iter()
+        .any(|text| text.len() == 65_536));
+}
+
+#[test]
+fn small_and_medium_runs_hit_what_matters() {
+    for (shape, seed) in [(Shape::Small, 5), (Shape::Medium, 6)] {
+        let mut seen = Seen::default();
+        for text in texts(shape, 1_000, seed) {
+            let plan = check(&text).unwrap();
+            let (machine, other_tried) = watched(&plan);
+            seen.add_run(&plan, &machine);
+            seen.add("try by another than worker 0", other_tried);
+        }
+        seen.each_at_least(20);
+    }
+}
+
+#[test]
+fn large_runs() {
+    let mut finished = 0;
+    for text in texts(Shape::Large, 12, 7) {
+        finished += usize::from(played(&check(&text).unwrap()).finished());
+    }
+    assert!(finished >= 3, "{finished}");
+}
+
+#[test]
+fn damaged_texts_give_each_refusal_often() {
+    let rng = &mut Rng::new(8);
+    let mut counts = [0usize; 7];
+    for _ in 0..4_000 {
+        let number = check(&damaged(rng)).map_or_else(|refusal| refusal.number, |_| 0);
+        counts[usize::from(number)] += 1;
+    }
+    assert!(counts[1..].iter().all(|&count| count >= 200), "{counts:?}");
+    assert!(counts[0] <= 1_500, "{counts:?}");
+}
+
+/// Lines beyond the first few are refused too, not only the beginning.
+#[test]
+fn refused_lines_are_spread() {
+    let rng = &mut Rng::new(10);
+    let mut lines = BTreeMap::new();
+    for _ in 0..2_000 {
+        if let Err(refusal) = check(&damaged(rng)) {
+            *lines.entry(refusal.line.min(12)).or_insert(0) += 1;
+        }
+    }
+    assert!(
+        (0..=12).all(|line| lines.get(&line).is_some_and(|&count| count >= 10)),
+        "{lines:?}"
+    );
+}
+
+#[test]
+fn samples_are_small() {
+    for seed in 0..3_000 {
+        let text = sample(seed);
+        assert!(text.len() <= 400);
+        if let Ok(plan) = check(&text) {
+            assert!(plan.workers <= 6 && plan.tasks.len() <= 14, "{seed}");
+            assert!(plan.tasks.iter().all(|task| task.cost <= 3), "{seed}");
+            let picks: u64 = plan
+                .orders
+                .iter()
+                .map(|order| order.picks(plan.workers))
+                .sum();
+            assert!(picks <= 300);
+        }
+    }
+}
+
+#[test]
+fn three_hundred_samples_hit_what_matters() {
+    let mut seen = Seen::default();
+    let mut refusals = [0usize; 6];
+    for seed in 0..300 {
+        match check(&sample(seed)) {
+            Ok(plan) => seen.add_run(&plan, &played(&plan)),
+            Err(refusal) => refusals[usize::from(refusal.number)] += 1,
+        }
+    }
+    seen.each_at_least(8);
+    assert!(
+        refusals[1..].iter().all(|&count| count >= 4),
+        "{refusals:?}"
+    );
+    let refused: usize = refusals.iter().sum();
+    assert!((30..=75).contains(&refused), "{refused}");
+}

@@ -1,0 +1,512 @@
+//! What the paper promises of whole runs, over random plans and random lists of
+//! picks, with rings from the number of workers up and queues from 1.
+
+use second::lock::{Lock, Look};
+use second::machine::{Machine, Place, State};
+use second::plan::{check, Plan};
+use second::random::{plan, Rng, Shape};
+
+/// A wait, from the registering pick on.
+#[derive(Clone, Copy)]
+struct Wait {
+    ticket: u64,
+    distance: u64,
+    hand_overs: u64,
+    picks: u64,
+}
+
+/// A machine and what was seen of it from outside.
+struct Watch<'p> {
+    plan: &'p Plan,
+    machine: Machine,
+    waits: Vec<Option<Wait>>,
+    receipts: Vec<Vec<usize>>,
+    endings: Vec<Vec<usize>>,
+    /// Every so many picks in a row include each worker, where that is known.
+    regular: Option<u64>,
+    hand_overs: u64,
+}
+
+impl<'p> Watch<'p> {
+    fn new(plan: &'p Plan, slots: usize, capacity: usize, regular: Option<u64>) -> Watch<'p> {
+        Watch {
+            plan,
+            machine: Machine::new(plan, slots, capacity),
+            waits: vec![None; plan.workers as usize],
+            receipts: vec![Vec::new(); plan.tasks.len()],
+            endings: vec![Vec::new(); plan.tasks.len()],
+            regular,
+            hand_overs: 0,
+        }
+    }
+
+    fn states(&self) -> Vec<State> {
+        self.machine.tasks.iter().map(|task| task.state).collect()
+    }
+
+    /// One pick, with every question about it.
+    fn step(&mut self, worker: usize) {
+        let place = self.machine.workers[worker].place;
+        let tail = self.machine.lock.tail;
+        let states = self.states();
+        self.no_flag_repeats(worker);
+        self.machine.step(worker);
+        self.follow_waits(worker, place, self.machine.lock.tail - tail);
+        self.follow_tasks(worker, &states);
+        self.turns();
+        self.places();
+        self.owner_and_limits();
+        self.end_is_counted_right();
+    }
+
+    /// A message to be delivered brings only flags that its access lacks.
+    fn no_flag_repeats(&self, worker: usize) {
+        let me = &self.machine.workers[worker];
+        if let (Place::Free, None, Some(message)) = (me.place, me.notice, me.mailbox.front()) {
+            assert_eq!(
+                self.machine.accesses[message.access].flags & message.flags,
+                0
+            );
+        }
+    }
+
+    fn follow_waits(&mut self, worker: usize, before: Place, hand_overs: u64) {
+        assert!(hand_overs <= 1);
+        self.hand_overs += hand_overs;
+        for wait in self.waits.iter_mut().flatten() {
+            wait.hand_overs += hand_overs;
+            wait.picks += 1;
+        }
+        if let Place::Register(ticket) = before {
+            let distance = (ticket + 1).checked_sub(self.machine.lock.tail);
+            let distance = distance.expect("a distance is never negative");
+            self.waits[worker] = Some(Wait {
+                ticket,
+                distance,
+                hand_overs: 0,
+                picks: 0,
+            });
+        }
+        self.waiting_figure();
+        // The wait is over with a task received or the lock owned.
+        let received = self.machine.workers[worker].task.is_some();
+        if received || self.machine.owner == Some(worker) {
+            let wait = self.waits[worker].take();
+            assert!(wait.is_none_or(|wait| wait.hand_overs >= wait.distance));
+        }
+    }
+
+    fn waiting_figure(&self) {
+        let workers = self.plan.workers;
+        if let Some(regular) = self.regular {
+            for wait in self.waits.iter().flatten() {
+                assert!(wait.picks <= (wait.distance * (3 * workers + 2) + 1) * regular);
+            }
+        }
+    }
+
+    /// It is a waiter's turn exactly after as many hand-overs as its distance.
+    fn turns(&self) {
+        for (worker, wait) in self.waits.iter().enumerate() {
+            let looks = matches!(self.machine.workers[worker].place, Place::Look(_));
+            assert_eq!(wait.is_some(), looks);
+            if let Some(wait) = wait {
+                let turn = self.machine.lock.turn(wait.ticket);
+                assert_eq!(turn, wait.hand_overs >= wait.distance);
+            }
+        }
+    }
+
+    fn follow_tasks(&mut self, worker: usize, before: &[State]) {
+        for (task, &old) in before.iter().enumerate() {
+            let new = self.machine.tasks[task].state;
+            if old == new {
+                continue;
+            }
+            let allowed = match new {
+                State::New => false,
+                State::Waiting => old == State::New,
+                State::Ready => old == State::Waiting,
+                State::Held => old == State::Ready,
+                State::Run => old == State::Ready || old == State::Held,
+                State::Over => old == State::Run,
+            };
+            assert!(allowed, "{old:?} to {new:?}");
+            match new {
+                State::Run => {
+                    self.receipts[task].push(worker);
+                    self.earlier_conflicts_over(task);
+                }
+                State::Over => self.endings[task].push(worker),
+                _ => {}
+            }
+            self.one_receipt_one_ending(task);
+        }
+    }
+
+    fn one_receipt_one_ending(&self, task: usize) {
+        let (receipts, endings) = (&self.receipts[task], &self.endings[task]);
+        assert!(receipts.len() <= 1 && endings.len() <= receipts.len());
+        assert!(endings.is_empty() || endings == receipts);
+        let record = &self.machine.tasks[task];
+        assert_eq!(record.worker, receipts.first().copied());
+        assert_eq!(
+            (record.receipt.is_some(), record.ending.is_some()),
+            (receipts.len() == 1, endings.len() == 1)
+        );
+    }
+
+    fn earlier_conflicts_over(&self, task: usize) {
+        for earlier in (0..task).filter(|&earlier| self.conflict(earlier, task)) {
+            assert_eq!(
+                self.machine.tasks[earlier].state,
+                State::Over,
+                "{earlier} before {task}"
+            );
+        }
+    }
+
+    fn conflict(&self, one: usize, other: usize) -> bool {
+        self.plan.tasks[one].accesses.iter().any(|a| {
+            let mut shared = self.plan.tasks[other].accesses.iter();
+            shared.any(|b| a.address == b.address && (a.writes || b.writes))
+        })
+    }
+
+    /// A task that is ready, held or run stands in exactly one place, others in none.
+    fn places(&self) {
+        let mut places = vec![0; self.plan.tasks.len()];
+        let machine = &self.machine;
+        machine.ready.iter().for_each(|&task| places[task] += 1);
+        for (worker, state) in machine.workers.iter().enumerate() {
+            let listed = state.to_add.iter().chain(&state.queue).chain(&state.task);
+            listed.for_each(|&task| places[task] += 1);
+            let (ticket, task) = machine.lock.cells[worker];
+            if self.waits[worker].is_some_and(|wait| wait.ticket == ticket) {
+                places[task as usize] += 1;
+            }
+        }
+        for (task, record) in machine.tasks.iter().enumerate() {
+            let placed = matches!(record.state, State::Ready | State::Held | State::Run);
+            assert_eq!(places[task], usize::from(placed), "task {task}");
+        }
+    }
+
+    fn owner_and_limits(&self) {
+        let machine = &self.machine;
+        for (worker, state) in machine.workers.iter().enumerate() {
+            let owning = !matches!(
+                state.place,
+                Place::Free | Place::Register(_) | Place::Look(_) | Place::Work(_) | Place::TryLock
+            );
+            assert_eq!(owning, machine.owner == Some(worker));
+            assert!(state.queue.len() <= machine.capacity);
+            assert!(state.mailbox.len() <= 4);
+        }
+    }
+
+    fn end_is_counted_right(&self) {
+        let machine = &self.machine;
+        let over = machine.tasks.iter().all(|task| task.state == State::Over);
+        let silent = machine
+            .workers
+            .iter()
+            .all(|w| w.mailbox.is_empty() && w.notice.is_none());
+        assert_eq!(machine.finished(), over && silent);
+    }
+
+    /// What holds of every finished run.
+    fn at_the_end(&self) {
+        assert!(self.machine.finished());
+        for task in 0..self.plan.tasks.len() {
+            assert_eq!(self.receipts[task].len(), 1);
+            assert_eq!(self.endings[task], self.receipts[task]);
+        }
+        for (number, access) in self.machine.accesses.iter().enumerate() {
+            let later = &self.machine.accesses[number + 1..];
+            let has_successor = later.iter().any(|other| other.address == access.address);
+            assert_eq!(access.flags, if has_successor { 63 } else { 7 });
+        }
+    }
+}
+
+/// Lists of picks.
+#[derive(Clone, Copy, Debug)]
+enum List {
+    RoundRobin,
+    /// Each round a new permutation: every 2W - 1 in a row include each worker.
+    Permutations,
+    /// Anything in which every B in a row include each worker; where there is a
+    /// choice, one that wastes picks is taken.
+    Hostile(u64),
+    /// Any worker at any time.
+    Random,
+    /// The same worker for a while.
+    Bursts,
+}
+
+struct Picker {
+    list: List,
+    workers: usize,
+    round: Vec<usize>,
+    /// For a hostile list: the pick by which each worker must come again.
+    deadlines: Vec<u64>,
+    now: u64,
+    burst: (usize, u64),
+}
+
+impl Picker {
+    fn new(list: List, workers: usize) -> Picker {
+        let first = if let List::Hostile(regular) = list {
+            regular
+        } else {
+            0
+        };
+        Picker {
+            list,
+            workers,
+            round: Vec::new(),
+            deadlines: vec![first; workers],
+            now: 0,
+            burst: (0, 0),
+        }
+    }
+
+    fn regular(&self) -> Option<u64> {
+        let workers = self.workers as u64;
+        match self.list {
+            List::RoundRobin => Some(workers),
+            List::Permutations => Some(2 * workers - 1),
+            List::Hostile(regular) => Some(regular),
+            List::Random | List::Bursts => None,
+        }
+    }
+
+    fn next(&mut self, rng: &mut Rng, machine: &Machine) -> usize {
+        self.now += 1;
+        match self.list {
+            List::Random => rng.index(self.workers),
+            List::RoundRobin => (self.now as usize - 1) % self.workers,
+            List::Permutations => {
+                if self.round.is_empty() {
+                    self.round = (0..self.workers).collect();
+                    rng.shuffle(&mut self.round);
+                }
+                self.round.pop().unwrap_or(0)
+            }
+            List::Bursts => {
+                if self.burst.1 == 0 {
+                    self.burst = (rng.index(self.workers), rng.between(1, 40));
+                }
+                self.burst.1 -= 1;
+                self.burst.0
+            }
+            List::Hostile(regular) => {
+                let worker = self.hostile(rng, machine);
+                self.deadlines[worker] = self.now + regular;
+                worker
+            }
+        }
+    }
+
+    /// A worker whose look is in vain, or any, where all deadlines can still be
+    /// met; else the one whose deadline is next.
+    fn hostile(&self, rng: &mut Rng, machine: &Machine) -> usize {
+        let wasteful = |worker: usize| match machine.workers[worker].place {
+            Place::Look(ticket) => !machine.lock.turn(ticket),
+            _ => false,
+        };
+        let mut order: Vec<usize> = (0..self.workers).collect();
+        rng.shuffle(&mut order);
+        order.sort_by_key(|&worker| !wasteful(worker));
+        if rng.one_in(8) {
+            rng.shuffle(&mut order);
+        }
+        let next = (0..self.workers)
+            .min_by_key(|&worker| self.deadlines[worker])
+            .unwrap_or(0);
+        order
+            .into_iter()
+            .find(|&worker| self.can_wait(worker))
+            .unwrap_or(next)
+    }
+
+    /// Whether all others can still come in time when `worker` is picked now.
+    fn can_wait(&self, worker: usize) -> bool {
+        let mut others: Vec<u64> = (0..self.workers)
+            .filter(|&w| w != worker)
+            .map(|w| self.deadlines[w])
+            .collect();
+        others.sort();
+        others
+            .iter()
+            .zip(self.now + 1..)
+            .all(|(&deadline, earliest)| earliest <= deadline)
+    }
+}
+
+fn finishing_figure(plan: &Plan, regular: u64) -> u64 {
+    let tasks = plan.tasks.len() as u64;
+    let accesses: u64 = plan
+        .tasks
+        .iter()
+        .map(|task| task.accesses.len() as u64)
+        .sum();
+    let cost: u64 = plan.tasks.iter().map(|task| task.cost).sum();
+    regular * (4 * plan.workers + 8) * (7 * tasks + 7 * accesses + cost)
+}
+
+/// Plays a plan with a list of picks; gives whether it finished.
+fn play(rng: &mut Rng, plan: &Plan, list: List, slots: usize, capacity: usize, most: u64) -> bool {
+    let mut picker = Picker::new(list, plan.workers as usize);
+    let regular = picker.regular();
+    let limit = regular.map_or(most, |regular| finishing_figure(plan, regular));
+    let mut watch = Watch::new(plan, slots, capacity, regular);
+    while !watch.machine.finished() && watch.machine.picks < limit {
+        let worker = picker.next(rng, &watch.machine);
+        watch.step(worker);
+    }
+    if watch.machine.finished() {
+        watch.at_the_end();
+    }
+    assert!(
+        regular.is_none() || watch.machine.finished(),
+        "the finishing figure"
+    );
+    assert!(watch.machine.lock.tail == slots as u64 + 1 + watch.hand_overs);
+    watch.machine.finished()
+}
+
+/// A random plan whose order lines are not used.
+fn random_plan(rng: &mut Rng, shape: Shape) -> Plan {
+    check(&plan(rng, shape)).unwrap()
+}
+
+/// A ring from the number of workers up, often the smallest.
+fn ring(rng: &mut Rng, workers: u64) -> usize {
+    let slots = match rng.below(4) {
+        0 | 1 => workers,
+        2 => workers + rng.below(5),
+        _ => 64,
+    };
+    slots as usize
+}
+
+fn capacity(rng: &mut Rng) -> usize {
+    rng.choose(&[1, 1, 2, 3, 8, 16])
+}
+
+fn lists(rng: &mut Rng, workers: u64) -> [List; 5] {
+    let regular = workers + rng.below(3 * workers);
+    [
+        List::RoundRobin,
+        List::Permutations,
+        List::Hostile(regular),
+        List::Random,
+        List::Bursts,
+    ]
+}
+
+fn play_many(seed: u64, shape: Shape, plans: usize, most: u64) {
+    let rng = &mut Rng::new(seed);
+    let mut finished = 0;
+    for _ in 0..plans {
+        let plan = random_plan(rng, shape);
+        for list in lists(rng, plan.workers) {
+            let (slots, capacity) = (ring(rng, plan.workers), capacity(rng));
+            finished += usize::from(play(rng, &plan, list, slots, capacity, most));
+        }
+    }
+    assert!(finished >= 4 * plans, "{finished} of {}", 5 * plans);
+}
+
+#[test]
+fn small_plans() {
+    play_many(11, Shape::Small, 10_000, 3_000);
+}
+
+#[test]
+fn medium_plans() {
+    play_many(12, Shape::Medium, 200, 200_000);
+}
+
+/// The paper's own ring and capacity, with 32 workers; fewer tasks than the shape has.
+#[test]
+fn large_plans() {
+    let rng = &mut Rng::new(13);
+    for _ in 0..2 {
+        let mut plan = random_plan(rng, Shape::Large);
+        plan.tasks.truncate(40);
+        plan.tasks.iter_mut().for_each(|task| task.cost %= 20);
+        for list in [List::RoundRobin, List::Hostile(50), List::Random] {
+            assert!(play(rng, &plan, list, 64, 8, 2_000_000));
+            assert!(play(rng, &plan, list, 32, 1, 2_000_000));
+        }
+    }
+}
+
+/// Hostile lists are regular as they say.
+#[test]
+fn hostile_lists_keep_their_bound() {
+    let rng = &mut Rng::new(14);
+    for _ in 0..300 {
+        let plan = random_plan(rng, Shape::Small);
+        let workers = plan.workers as usize;
+        let regular = workers as u64 + rng.below(8);
+        let mut picker = Picker::new(List::Hostile(regular), workers);
+        let mut machine = Machine::new(&plan, workers, 8);
+        let mut picks = Vec::new();
+        for _ in 0..200 {
+            let worker = picker.next(rng, &machine);
+            machine.step(worker);
+            picks.push(worker);
+        }
+        for window in picks.windows(regular as usize) {
+            assert!(
+                (0..workers).all(|worker| window.contains(&worker)),
+                "{window:?}"
+            );
+        }
+    }
+}
+
+/// The lock alone, for every ring size and as many workers as slots: turns,
+/// front waiter and freedom are those of the tickets that are out.
+#[test]
+fn lock_alone() {
+    let rng = &mut Rng::new(15);
+    for slots in 1..=64 {
+        let mut lock = Lock::new(slots, slots);
+        let start = slots as u64;
+        assert_eq!((lock.head, lock.tail), (start, start + 1));
+        let mut tickets: Vec<Option<(u64, bool)>> = vec![None; slots];
+        for _ in 0..2_000 {
+            let worker = rng.index(slots);
+            tickets[worker] = match tickets[worker] {
+                None => Some((lock.take(), false)),
+                Some((ticket, false)) => {
+                    lock.register(ticket, worker);
+                    Some((ticket, true))
+                }
+                Some((ticket, true)) if lock.look(ticket, worker) == Look::Owns => {
+                    lock.hand_over();
+                    None
+                }
+                waiting => waiting,
+            };
+            compare_lock(&lock, &tickets);
+        }
+        assert!(lock.tail > start + 4);
+    }
+}
+
+fn compare_lock(lock: &Lock, tickets: &[Option<(u64, bool)>]) {
+    for &(ticket, _) in tickets.iter().flatten() {
+        assert_eq!(lock.turn(ticket), ticket < lock.tail);
+    }
+    let at_tail = tickets
+        .iter()
+        .position(|held| *held == Some((lock.tail, true)));
+    assert_eq!(lock.front(), at_tail);
+    assert_eq!(lock.free(), tickets.iter().all(|held| held.is_none()));
+}

@@ -1,0 +1,275 @@
+//! Which refusal, and in which line.
+
+use second::plan::{check, Refusal};
+use second::run::answer_bytes;
+use second::text::lines;
+
+fn refused_text(text: &[u8]) -> (u8, u64) {
+    let Refusal { number, line } = check(text).unwrap_err();
+    (number, line)
+}
+
+fn refused(plan: &[&str]) -> (u8, u64) {
+    refused_text(&lines(plan))
+}
+
+/// The refusal number of one line, put after a W line with 2 workers.
+fn second_line(line: &str) -> u8 {
+    let (number, at) = refused(&["W 2", line]);
+    assert_eq!(at, 2);
+    number
+}
+
+fn accepted(plan: &[&str]) -> bool {
+    check(&lines(plan)).is_ok()
+}
+
+#[test]
+fn forms() {
+    for text in [
+        &b"W\t1"[..],
+        b"W",
+        b"\n",
+        b"W\n",
+        b"W\t\n",
+        b"W\t1\t\n",
+        b"W\t1\t1\n",
+        b"\tW\t1\n",
+        b"W\t01\n",
+        b"W\t00\n",
+        b"W\t+1\n",
+        b"W\t-1\n",
+        b"W\t1 \n",
+        b"W\t 1\n",
+        b"W 1\n",
+        b"W\t1\r\n",
+        b"W\tx\n",
+        b"W\t1x\n",
+        b"WW\t1\n",
+        b"w\t1\n",
+        b"X\t1\n",
+        b"W\t1\0\n",
+        b"W\t\xb2\n",
+        b"\xef\xbb\xbfW\t1\n",
+        b"\0",
+    ] {
+        assert_eq!(refused_text(text), (1, 1), "{text:?}");
+    }
+}
+
+#[test]
+fn forms_of_later_lines() {
+    for line in [
+        "T",
+        "T a",
+        "T  0",
+        "T a ",
+        "T a 00",
+        "T a x",
+        "T a_b 0",
+        "T a 0 ",
+        "T a 0 5",
+        "T a 0 r",
+        "T a 0 r05",
+        "T a 0 R5",
+        "T a 0 rw5",
+        "T a 0 r5 ",
+        "T 0123456789abcdefg 0",
+        "T a 0 r-1",
+        "P",
+        "P 0",
+        "P 0 1 1",
+        "P 0 ",
+        "P  1",
+        "R",
+        "R 1 1",
+        "R 01",
+        "S 1",
+        "S 1 1 1",
+        "S  1",
+        "",
+        "E 1",
+        "M 1",
+    ] {
+        assert_eq!(second_line(line), 1, "{line}");
+    }
+}
+
+#[test]
+fn a_line_without_line_feed() {
+    assert_eq!(refused_text(b"W\t1\nT\ta\t0"), (1, 2));
+    assert_eq!(refused_text(b"W\t1\nT\ta\t0\nP\t9"), (1, 3));
+    // A fault of an earlier line decides first.
+    assert_eq!(refused_text(b"W\t33\nT\ta\t0"), (2, 1));
+    // An empty last piece is no line; an empty line is one.
+    assert!(check(b"W\t1\n").is_ok());
+    assert_eq!(refused_text(b"W\t1\n\n"), (1, 2));
+}
+
+#[test]
+fn places() {
+    assert_eq!(refused(&["T a 0", "W 1"]), (3, 1));
+    assert_eq!(refused(&["R 1"]), (3, 1));
+    assert_eq!(refused(&["P 40 1"]), (3, 1));
+    assert_eq!(refused(&["R 0"]), (3, 1));
+    assert_eq!(refused(&["T a 1001 r5 r5"]), (3, 1));
+    assert_eq!(refused(&["W 1", "W 1"]), (3, 2));
+    assert_eq!(refused(&["W 1", "W 99"]), (3, 2));
+    assert_eq!(refused(&["W 1", "R 1", "T a 0"]), (3, 3));
+    assert_eq!(refused(&["W 1", "R 1", "T a 1001"]), (3, 3));
+    assert_eq!(refused(&["W 1", "R 1", "T a 0 r1 r1"]), (3, 3));
+    assert_eq!(refused(&["W 1", "S 1 1", "T a 0 r1 r2 r3 r4 r5"]), (3, 3));
+    // Form before place.
+    assert_eq!(refused(&["W 1", "R 1", "T a"]), (1, 3));
+    assert_eq!(refused(&["W 1", "W x"]), (1, 2));
+}
+
+#[test]
+fn ranges() {
+    for line in [
+        "T a 1001",
+        "T a 0 r65536",
+        "T a 0 w65536",
+        "T a 0 r1 w2 r3 w70000",
+        "P 2 1",
+        "P 0 0",
+        "P 0 4097",
+        "P 2 0",
+        "R 0",
+        "R 1000001",
+        "S 18446744073709551616 1",
+        "S 0 0",
+        "S 0 1000001",
+        "S 99999999999999999999999 1",
+    ] {
+        assert_eq!(second_line(line), 2, "{line}");
+    }
+    for line in [
+        "T a 1000",
+        "T a 0 r65535 w0",
+        "P 1 4096",
+        "P 0 1",
+        "R 1",
+        "R 1000000",
+        "S 18446744073709551615 1000000",
+        "S 0 1",
+    ] {
+        assert!(accepted(&["W 2", line]), "{line}");
+    }
+}
+
+/// Numbers that wrap around 2^64 to a small value are out of range too.
+#[test]
+fn no_wrapping() {
+    assert_eq!(refused(&["W 18446744073709551617"]), (2, 1));
+    assert_eq!(second_line("R 18446744073709551617"), 2);
+    assert_eq!(second_line("R 340282366920938463463374607431768211457"), 2);
+    assert_eq!(second_line("T a 0 r18446744073709551621"), 2);
+}
+
+#[test]
+fn amounts_and_repeats() {
+    assert_eq!(second_line("T a 0 r1 r2 r3 r4 r5"), 4);
+    assert_eq!(second_line("T a 0 r1 r2 r3 r4 r1"), 4);
+    assert_eq!(second_line("T a 0 r1 r2 r3 r4 r5 r6 r7 r8 r9"), 4);
+    assert_eq!(second_line("T a 0 r1 r2 r3 r4 x"), 1);
+    assert_eq!(second_line("T a 0 r1 r2 r3 r4 r65536"), 2);
+    assert_eq!(second_line("T a 1001 r1 r2 r3 r4 r5"), 2);
+    assert_eq!(second_line("T a 0 r5 w5"), 5);
+    assert_eq!(second_line("T a 0 r1 w2 r3 w1"), 5);
+    assert_eq!(second_line("T a 0 r65536 r65536"), 2);
+    assert_eq!(second_line("T a 1001 r5 r5"), 2);
+    assert!(accepted(&["W 1", "T a 0 r1 w2 r3 w4", "T b 0 r1 w2 r3 w4"]));
+}
+
+#[test]
+fn the_129th_task() {
+    let with = |last: &[&str]| {
+        let mut plan = vec!["W 1"];
+        plan.extend(["T a 0"; 128]);
+        plan.extend_from_slice(last);
+        plan.into_iter().map(String::from).collect::<Vec<_>>()
+    };
+    let refused = |last: &[&str]| {
+        let plan = with(last);
+        let plan: Vec<&str> = plan.iter().map(String::as_str).collect();
+        check(&lines(&plan))
+            .map(|plan| plan.tasks.len())
+            .map_err(|r| (r.number, r.line))
+    };
+    assert_eq!(refused(&[]), Ok(128));
+    assert_eq!(refused(&["R 1"]), Ok(128));
+    assert_eq!(refused(&["T a 0"]), Err((4, 130)));
+    assert_eq!(refused(&["T a"]), Err((1, 130)));
+    assert_eq!(refused(&["T a 1001"]), Err((2, 130)));
+    assert_eq!(refused(&["T a 0 r5 r5"]), Err((4, 130)));
+    assert_eq!(refused(&["R 1", "T a 0"]), Err((3, 131)));
+    assert_eq!(refused(&["T a 0", "x"]), Err((4, 130)));
+}
+
+#[test]
+fn the_first_faulty_line_decides() {
+    assert_eq!(refused(&["W 1", "T a 0 r5 r5", "X"]), (5, 2));
+    assert_eq!(refused(&["W 1", "T a 0 r1 r2 r3 r4 r5", "T a"]), (4, 2));
+    assert_eq!(refused(&["W 0", "W 0"]), (2, 1));
+    assert_eq!(refused(&["W 1", "P 1 1", "T"]), (2, 2));
+    assert_eq!(refused(&["W 1", "R 1", "R 1", "R 0"]), (2, 4));
+}
+
+#[test]
+fn numbers_of_forty_thousand_digits() {
+    let nines = "9".repeat(40_000);
+    let zeros = "0".repeat(40_000);
+    let one_and_zeros = format!("1{}", "0".repeat(39_999));
+    for digits in [&nines, &one_and_zeros] {
+        assert_eq!(refused(&[&format!("W {digits}")]), (2, 1));
+        for line in [
+            "T a #", "T a 0 r#", "P # 1", "P 0 #", "R #", "S # 1", "S 1 #",
+        ] {
+            assert_eq!(second_line(&line.replace('#', digits)), 2, "{line}");
+        }
+        assert_eq!(second_line(&format!("W {digits}")), 3);
+        assert_eq!(second_line(&format!("R {digits}x")), 1);
+        assert_eq!(second_line(&format!("T {digits} 0")), 1);
+        assert_eq!(second_line(&format!("T a 0 r1 r2 r3 r4 r{digits}")), 2);
+    }
+    assert_eq!(second_line(&format!("R {zeros}")), 1);
+    let unended = format!("W\t1\nR\t{nines}");
+    assert_eq!(refused_text(unended.as_bytes()), (1, 2));
+}
+
+/// `W 1` and rounds up to the wanted size.
+fn text_of(size: usize) -> Vec<u8> {
+    let mut text = b"W\t1\n".to_vec();
+    while text.len() + 8 <= size {
+        text.extend(b"R\t1\n");
+    }
+    let digits = "1".repeat(size - text.len() - 3);
+    text.extend(format!("R\t{digits}\n").bytes());
+    assert_eq!(text.len(), size);
+    text
+}
+
+#[test]
+fn sizes() {
+    assert!(check(&text_of(65_535)).is_ok());
+    assert!(check(&text_of(65_536)).is_ok());
+    assert_eq!(refused_text(&text_of(65_537)), (6, 0));
+    assert_eq!(refused_text(&vec![b'x'; 65_536]), (1, 1));
+    assert_eq!(refused_text(&vec![b'x'; 65_537]), (6, 0));
+    assert_eq!(refused_text(&vec![b'\n'; 200_000]), (6, 0));
+    let mut cut = text_of(65_536);
+    cut.pop();
+    let last_line = cut.iter().filter(|&&byte| byte == b'\n').count() as u64 + 1;
+    assert_eq!(refused_text(&cut), (1, last_line));
+}
+
+#[test]
+fn printed_refusals() {
+    assert_eq!(answer_bytes(b"", u64::MAX), b"X\t3\t1\n");
+    assert_eq!(answer_bytes(&text_of(65_537), u64::MAX), b"X\t6\t0\n");
+    assert_eq!(
+        answer_bytes(&lines(&["W 1", "T a 0 r5 r5"]), 0),
+        b"X\t5\t2\n"
+    );
+}
