@@ -60,13 +60,25 @@ fn small(rng: &mut Rng) -> Vec<Line> {
         rounds: 8,
         seeded: 40,
     };
-    for _ in 0..rng.below(9) {
+    add_orders(rng, &mut lines, workers, size, 8, 300);
+    lines
+}
+
+/// Order lines, up to `most`, and perhaps a last one of up to `rounds` rounds.
+fn add_orders(
+    rng: &mut Rng,
+    lines: &mut Vec<Line>,
+    workers: u64,
+    size: OrderSize,
+    most: u64,
+    rounds: u64,
+) {
+    for _ in 0..rng.below(most + 1) {
         lines.push(order_line(rng, workers, size));
     }
     if rng.one_in(2) {
-        lines.push(line(&[&"R", &rng.between(1, 300)]));
+        lines.push(line(&[&"R", &rng.between(1, rounds)]));
     }
-    lines
 }
 
 /// Worker 0 creates alone for a while, perhaps with the last one in its way: so a
@@ -111,12 +123,7 @@ fn medium(rng: &mut Rng) -> Vec<Line> {
         rounds: 40,
         seeded: 600,
     };
-    for _ in 0..rng.below(25) {
-        lines.push(order_line(rng, workers, size));
-    }
-    if rng.one_in(2) {
-        lines.push(line(&[&"R", &rng.between(1, 4_000)]));
-    }
+    add_orders(rng, &mut lines, workers, size, 24, 4_000);
     lines
 }
 

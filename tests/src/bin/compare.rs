@@ -75,11 +75,7 @@ fn theorem(seed: u64) -> String {
     let mut output = vec![IN_OUTPUT; call.output];
     let answer = match run::run(&call.text, call.limit, &mut store, &mut output) {
         Ok(done) => format!("reports {} {}", done.picks, done.length),
-        Err(no) => format!(
-            "refuses {} {}",
-            REFUSALS[no.number as usize - 1],
-            no.line
-        ),
+        Err(no) => format!("refuses {} {}", REFUSALS[no.number as usize - 1], no.line),
     };
     let zeros = store.iter().take_while(|&&n| n == 0).count();
     let written = output
