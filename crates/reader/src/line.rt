@@ -97,7 +97,7 @@ fn outside(low: u64, high: u64, n: u64) -> bool
 }
 
 // Whether a number is out of its range, as the field after so many of a line of this kind.
-fn is_out(workers: u64, kind: Kind, fields: u64, value: u64, fits: bool) -> bool
+pub fn is_out(workers: u64, kind: Kind, fields: u64, value: u64, fits: bool) -> bool
     ensures { λ r. ⌜ r ≡ isOut workers kind fields value fits ⌝ }
 {
     match kind {
@@ -118,7 +118,7 @@ fn is_out(workers: u64, kind: Kind, fields: u64, value: u64, fits: bool) -> bool
     }
 }
 
-fn either(a: bool, b: bool) -> bool
+pub fn either(a: bool, b: bool) -> bool
     ensures { λ r. ⌜ r ≡ (a || b) ⌝ }
 {
     if a {
