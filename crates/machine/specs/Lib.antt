@@ -6,8 +6,10 @@ pub mod Step
 pub mod Trace
 pub mod Whereabouts
 pub mod View
+pub mod Events
 pub mod Played
 pub mod Figures
 pub mod Safety
 pub mod Progress
+pub mod Ranges
 pub mod WholeRuns

@@ -30,23 +30,21 @@ use lib.ListN.{length, getElem?}
 use Rattle.runs.specs.Update.{same, order}
 use Rattle.runs.specs.Counts.{is, is-other}
 use Rattle.runs.specs.Picks.{Picks, run-append}
-use Rattle.lock.specs.Lock as L
 use Rattle.lock.specs.History.{Owner}
 use Rattle.lock.specs.Promise as Promise
 use Rattle.machine.specs.Accesses.{taskAt, conflict}
-use Rattle.machine.specs.State.{Setup, ready, held, running, over, opening, State, start, picked}
-use Rattle.machine.specs.Event.{Event, notifies, delivers, pushes, findsFull, triesAndOwns, triesInVain, opens, links, closes, takesTicket, registers, waits, receives, owns, drains, fills, takes, takesNone, handsOver, leaves, works, ends, event}
-use Rattle.machine.specs.Step.{apply, step, finished, pick, after}
+use Rattle.machine.specs.State.{Setup, ready, held, running, over, opening, State, start}
+use Rattle.machine.specs.Event.{Event, event}
+use Rattle.machine.specs.Step.{finished, pick, after}
 use Rattle.machine.specs.View as view
 use Rattle.machine.specs.View.{Does, does}
 use Rattle.machine.specs.Trace.{Happening, trace, tally, isReceipt, isEnding}
 use Rattle.machine.specs.Whereabouts.{places, isReady, isHeld, isRunning, pastWaiting}
 use Rattle.machine.specs.Safety.Facts.{CellFacts}
-use Rattle.machine.specs.Safety.Lowered.{lowered-keeps}
 use Rattle.machine.specs.Safety.Tasks.{task-facts, one-place, first-ready, celled}
-use Rattle.machine.specs.Safety.Traces.{run-finished, run-inv, step-picks, picks-taken, taken-within}
+use Rattle.machine.specs.Safety.Traces.{run-finished, run-inv, picks-taken, taken-within}
 use Rattle.machine.specs.Safety.Receipts as R
-use Rattle.machine.specs.Safety.Bounds.{adds-length, ready-length}
+use Rattle.machine.specs.Safety.Bounds.{adds-length, ready-length, Small, small-start, small-step}
 use Rattle.machine.specs.Safety.Order.{earlier-over}
 use Rattle.machine.specs.Safety.Stuck.{not-stuck}
 use Rattle.machine.specs.Safety.Locked.{stand, cell-facts}
@@ -54,35 +52,6 @@ use Rattle.machine.specs.Safety.Invariant.{Playable, Inv, laws, inv-star
 
 is-equal : (a b : ℕ) → 0 < is a b → a ≡ b
 is-equal a b l = ⊎-elim (λ (e : a ≡ b). e) (λ n. absurd (omega (arith, is-other a b n))) (same a b)
-
--- an event raises the head by at most one
-head-apply : (c : Setup) (s : State) (w : ℕ) (e : Event) → (apply c s w e) .lock .head ≤ suc (s .lock .head)
-head-apply c s w (notifies a f) = omega arith
-head-apply c s w (delivers m ms) = lowered-keeps (λ l p. l .head ≤ suc (s .lock .head)) _ w _ _ (omega arith)
-head-apply c s w (pushes i is) = omega arith
-head-apply c s w findsFull = omega arith
-head-apply c s w triesAndOwns = omega arith
-head-apply c s w triesInVain = omega arith
-head-apply c s w (opens i) = omega arith
-head-apply c s w (links i a) = omega arith
-head-apply c s w (closes i) = lowered-keeps (λ l p. l .head ≤ suc (s .lock .head)) _ w _ _ (omega arith)
-head-apply c s w takesTicket = omega arith
-head-apply c s w (registers t) = omega arith
-head-apply c s w waits = omega arith
-head-apply c s w (receives i) = omega arith
-head-apply c s w owns = omega arith
-head-apply c s w (drains p k) = omega arith
-head-apply c s w (fills n v i is) = omega arith
-head-apply c s w (takes i is) = omega arith
-head-apply c s w takesNone = omega arith
-head-apply c s w (handsOver n) = omega arith
-head-apply c s w (leaves o) = omega arith
-head-apply c s w (works i n) = omega arith
-head-apply c s w (ends i) = omega arith
-
-head-step : (c : Setup) (s : State) (w : ℕ) → (step c s w) .lock .head ≤ suc (s .lock .head)
-unfolding step
-head-step c s w = head-apply c (picked s) w (event c s w)
 
 -- at a receipt of task j it is ready or held
 receipt-status : (c : Setup) (s : State) → Inv c s → (w : ℕ) → w < c .workers → {e : Event} → Does c s w e → (j : ℕ) → 0 < isReceipt j e → pastWaiting (s .status j) ≡ 1
@@ -201,9 +170,9 @@ module _ (c : Setup) (playable : Playable c) (ws : List ℕ) (p : Picks (c .work
   -- head and tail: below the slots and the picks taken, and less than W apart while somebody owns
   pub ends-bounded : ((after c ws) .lock .head ≤ c .slots + (after c ws) .picks) × ((after c ws) .lock .tail ≤ suc ((after c ws) .lock .head))
       × ((w : ℕ) → w < c .workers → Owner (stand ((after c ws) .place w)) → (after c ws) .lock .head - (after c ws) .lock .tail < c .workers)
-  unfolding after start L.start
+  unfolding after
   ends-bounded = (
-    run-inv c (λ s. s .lock .head ≤ c .slots + s .picks) (λ s w l h. omega (arith, head-step c s w, step-picks c s w)) ws p (start c) (omega arith),
+    run-inv c (Small c) (λ s w l h. small-step c s w h) ws p (start c) (small-start c),
     (Promise.ends (inv-after c playable ws p .locked)) .1,
     λ w l o. omega (arith, Promise.ends-near (inv-after c playable ws p .locked), playable .workers),
   )

@@ -17,7 +17,7 @@ use Rattle.machine.specs.View.{Does, does-notify, does-deliver, does-pus
 use Rattle.machine.specs.Whereabouts.{linked}
 use Rattle.machine.specs.Safety.LinkLaws.{total, Links}
 use Rattle.machine.specs.Safety.Underway.{sum-zeros}
-use Rattle.machine.specs.Safety.Messages.{Made, Sound, Messages, flags-once, message-sound, linked-within}
+use Rattle.machine.specs.Safety.Messages.{Made, RightsOnly, Sound, Messages, flags-once, message-sound, linked-within}
 
 -- a flag summed over all accesses
 abbrev pub flagged : List Task → (Flags → ℕ) → (ℕ → Flags) → ℕ
@@ -114,7 +114,7 @@ module _ (c : Setup) (laws : Links (c .tasks)) where
     recreated x k e = omega arith
 
     rises : {e : Event} → Does c s w e → doneOf (c .tasks) (s .flags) (s .creation) + progress e ≤ doneOf (c .tasks) (apply c s w e .flags) (apply c s w e .creation)
-    rises (does-notify a f p) = let t : (a < total (c .tasks)) × (1 ≤ f .read + f .write) = rw p at (i .told w) in omega (arith, all-raised a (t .0) (sent f))
+    rises (does-notify a f p) = let t : (a < total (c .tasks)) × RightsOnly f = rw p at (i .told w) in omega (arith, all-raised a (t .0) (sent f))
     rises (does-deliver m ms p q) =
         let g : Sound (c .tasks) m = message-sound c laws s i w hw [] m ms q in
         rw (lowered-done c _ w (taskOf (c .tasks) (m .to)) _) (omega (arith, all-raised (m .to) (g .to) (m .flags), g .brings))

@@ -1,5 +1,5 @@
 -- What the layout in memory rests on: how long the lists of a state get, and which numbers stand in them.
-use Prim.Native.Nat.{ℕ, zero, suc, _-_, _≤_, _<_}
+use Prim.Native.Nat.{ℕ, zero, suc, _+_, _-_, _≤_, _<_}
 use native.Mathlib.Omega.{arith}
 use mathlib.Core.Path.{_≡_, refl, sym, ap, _∙_}
 use mathlib.Core.Logic.{⊎-elim}
@@ -10,13 +10,14 @@ use lib.Dec.{eqb}
 use Rattle.runs.specs.Update.{order, upd, upd-all, clash}
 use Rattle.runs.specs.Sums.{le-sum}
 use Rattle.runs.specs.Counts.{count, count-bounds}
+use Rattle.lock.specs.Lock as L
 use Rattle.plan.specs.Orders.{numbersFrom}
 use Rattle.machine.specs.Accesses.{taskAt, first, reader}
 use Rattle.machine.specs.Flags.{Flags, DONE, passesRead, passesWrite}
 use Rattle.machine.specs.State.{Setup, Message, looking, Status, new, waiting, ready, held, running, over, State, start, picked}
-use Rattle.machine.specs.Event.{Event}
+use Rattle.machine.specs.Event.{Event, notifies, delivers, pushes, findsFull, triesAndOwns, triesInVain, opens, links, closes, takesTicket, registers, waits, receives, owns, drains, fills, takes, takesNone, handsOver, leaves, works, ends, event}
 use Rattle.machine.specs.Step.{plain, passed, doneMessages, apply, step, pick, finished}
-use Rattle.machine.specs.Safety.Lowered.{lowered-cases}
+use Rattle.machine.specs.Safety.Lowered.{lowered-cases, lowered-keeps}
 use Rattle.machine.specs.View.{Does, does-notify, does-deliver, does-push, does-find-full, does-win, does-fail, does-open, does-link, does-close, does-take-ticket, does-register, does-wait, does-receive, does-own, does-drain, does-fill, does-take, does-take-none, does-hand-over, does-leave, does-work, does-end, does-step}
 use Rattle.machine.specs.Whereabouts.{listed, inHand, isReady, isRunning}
 use Rattle.machine.specs.Safety.Tasks.{Tasks, celled, of-the-plan}
@@ -191,3 +192,45 @@ pick-picks c s w = go (finished c s) (step-picks c s w)
     go : (b : Bool) → (step c s w) .picks ≡ suc (s .picks) → (elim b as (λ _. State) [ true ↦ s | false ↦ step c s w ]) .picks ≤ suc (s .picks)
     go true e = omega arith
     go false e = omega arith
+
+-- ---- tickets
+
+-- an event raises the head by at most one
+head-apply : (c : Setup) (s : State) (w : ℕ) (e : Event) → (apply c s w e) .lock .head ≤ suc (s .lock .head)
+head-apply c s w (notifies a f) = omega arith
+head-apply c s w (delivers m ms) = lowered-keeps (λ l p. l .head ≤ suc (s .lock .head)) _ w _ _ (omega arith)
+head-apply c s w (pushes i is) = omega arith
+head-apply c s w findsFull = omega arith
+head-apply c s w triesAndOwns = omega arith
+head-apply c s w triesInVain = omega arith
+head-apply c s w (opens i) = omega arith
+head-apply c s w (links i a) = omega arith
+head-apply c s w (closes i) = lowered-keeps (λ l p. l .head ≤ suc (s .lock .head)) _ w _ _ (omega arith)
+head-apply c s w takesTicket = omega arith
+head-apply c s w (registers t) = omega arith
+head-apply c s w waits = omega arith
+head-apply c s w (receives i) = omega arith
+head-apply c s w owns = omega arith
+head-apply c s w (drains p k) = omega arith
+head-apply c s w (fills n v i is) = omega arith
+head-apply c s w (takes i is) = omega arith
+head-apply c s w takesNone = omega arith
+head-apply c s w (handsOver n) = omega arith
+head-apply c s w (leaves o) = omega arith
+head-apply c s w (works i n) = omega arith
+head-apply c s w (ends i) = omega arith
+
+head-step : (c : Setup) (s : State) (w : ℕ) → (step c s w) .lock .head ≤ suc (s .lock .head)
+unfolding step
+head-step c s w = head-apply c (picked s) w (event c s w)
+
+-- the head is below the slots and the picks taken
+abbrev pub Small : Setup → State → Type 0
+Small c s = s .lock .head ≤ c .slots + s .picks
+
+pub small-start : (c : Setup) → Small c (start c)
+unfolding start L.start
+small-start c = omega arith
+
+pub small-step : (c : Setup) (s : State) (w : ℕ) → Small c s → Small c (step c s w)
+small-step c s w h = omega (arith, head-step c s w, step-picks c s w)

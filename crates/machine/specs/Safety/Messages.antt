@@ -1,21 +1,22 @@
 -- No message is lost and none is sent twice: for each access and flag, the flag set and the messages under way that bring it
 -- come to 1 where the flag is due, and to 0 where it is not.
 use Prim.Native.Nat.{ℕ, suc, _+_, _-_, _≤_, _<_, min}
-use mathlib.Core.Path.{_≡_, refl, _∙_}
+use mathlib.Core.Path.{_≡_, refl, ap, _∙_}
 use mathlib.Core.Logic.{_⊎_, inl, inr, _≢_}
 use mathlib.Core.List.{List, [], _∷_, _++_}
 use mathlib.Core.Option.{Option, none, some}
 use native.Mathlib.Omega.{arith}
 use lib.ListN.{length}
 use Rattle.runs.specs.Update.{order}
+use Rattle.runs.specs.Sums.{le-sum}
 use Rattle.plan.specs.Plan.{Task}
 use Rattle.machine.specs.Accesses.{taskOf, first, reader, prev, next}
-use Rattle.machine.specs.Flags.{Flags, noFlag}
+use Rattle.machine.specs.Flags.{Flags, granting, noFlag}
 use Rattle.machine.specs.State.{Setup, Message, Place, idle, notifying, trying, registering, looking, draining, serving, handing, leaving, working, Status, new, waiting, ready, held, running, over, Creation, opening, linking, State, start}
 use Rattle.machine.specs.Whereabouts.{linked}
 use Rattle.machine.specs.Safety.LinkLaws.{total, Links}
 use Rattle.machine.specs.Safety.Rights.{Right, toRead, toWrite, granted, sentOf, passes, passes-next, passes-none, granted-none, sent-granting}
-use Rattle.machine.specs.Safety.Underway.{here-same, sum-zeros, toward, outOf, underWay, way-empty, way-carried, way-two, way-apart, pending}
+use Rattle.machine.specs.Safety.Underway.{here-same, sum-zeros, toward, outOf, underWay, way-empty, way-carried, way-two, way-apart, tells, pending}
 
 abbrev pub hasEnded : Status → ℕ
 hasEnded new = 0
@@ -42,17 +43,21 @@ abbrev pub Made : List Task → Creation → Type 0
 Made ts (opening i) = i ≤ length ts
 Made ts (linking i a) = (i < length ts) × (first ts i ≤ a) × (a ≤ first ts (suc i))
 
+-- READ or WRITE or both, and no other flag: what an access passes on
+abbrev pub RightsOnly : Flags → Type 0
+RightsOnly f = (1 ≤ f .read + f .write) × (f ≡ granting (f .read) (f .write))
+
 -- a message goes to an access and brings a flag, none of the SENT ones; one with a sender passes READ or WRITE
 pub record Sound (ts : List Task) (m : Message) : Type 0 where
   pub to : m .to < total ts
   pub brings : 1 ≤ m .flags .read + m .flags .write + m .flags .next + m .flags .done
   pub unsent : (r : Right) → sentOf r (m .flags) ≡ 0
-  pub from : (b : ℕ) → m .sender ≡ some b → (b < total ts) × (1 ≤ m .flags .read + m .flags .write)
+  pub from : (b : ℕ) → m .sender ≡ some b → (b < total ts) × RightsOnly (m .flags)
 
 -- a notice is to an access and tells of READ or WRITE
 abbrev pub Told : List Task → Place → Type 0
 Told ts idle = Unit {0}
-Told ts (notifying b f) = (b < total ts) × (1 ≤ f .read + f .write)
+Told ts (notifying b f) = (b < total ts) × RightsOnly f
 Told ts trying = Unit {0}
 Told ts (registering t) = Unit {0}
 Told ts (looking t) = Unit {0}
@@ -184,6 +189,37 @@ module _ (c : Setup) (laws : Links (c .tasks)) where
               sentWrite = omega (arith, i .sents toWrite a, passing-once toWrite a l);
             }
         go (inr l) = rw (i .beyond a l) (record { read = omega arith; write = omega arith; done = omega arith; next = omega arith; sentRead = omega arith; sentWrite = omega arith })
+
+    -- a notice is to an access, and tells of each flag once
+    pub notice-once : (w : ℕ) → w < c .workers → (a : ℕ) (f : Flags) → s .place w ≡ notifying a f → (a < total (c .tasks)) × Once f
+    notice-once w hw a f p = (
+      to .0,
+      record {
+        read = bounded toRead;
+        write = bounded toWrite;
+        done = omega (arith, ap (λ (g : Flags). g .done) only);
+        next = omega (arith, ap (λ (g : Flags). g .next) only);
+        sentRead = omega (arith, ap (λ (g : Flags). g .sentRead) only);
+        sentWrite = omega (arith, ap (λ (g : Flags). g .sentWrite) only);
+      },
+    )
+      where
+        to : (a < total (c .tasks)) × RightsOnly f
+        to = rw p at (i .told w)
+
+        only : f ≡ granting (f .read) (f .write)
+        only = to .1 .1
+
+        bounded : (r : Right) → granted r f ≤ 1
+        bounded r =
+            omega (
+              arith,
+              i .sents r a,
+              passing-once r a (to .0),
+              le-sum (c .workers) (λ k. tells (granted r) a (s .place k)) w hw,
+              ap (tells (granted r) a) p,
+              here-same a a (granted r f) refl,
+            )
 
     module _ (w : ℕ) (hw : w < c .workers) (xs : List Message) (m : Message) (ys : List Message) (e : s .mail w ≡ xs ++ m ∷ ys) where
       pub message-sound : Sound (c .tasks) m

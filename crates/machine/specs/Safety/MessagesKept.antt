@@ -21,7 +21,7 @@ use Rattle.machine.specs.View.{Does, does-notify, does-deliver, does-pus
 use Rattle.machine.specs.Whereabouts.{isRunning, opened, linked}
 use Rattle.machine.specs.Safety.Facts.{TaskFacts, ReceiptFacts}
 use Rattle.machine.specs.Safety.LinkLaws.{total, Links}
-use Rattle.machine.specs.Safety.Messages.{hasEnded, All, all-append, Made, Sound, Told, due, passing, MessagesOf, Messages, linked-within}
+use Rattle.machine.specs.Safety.Messages.{hasEnded, All, all-append, Made, RightsOnly, Sound, Told, due, passing, MessagesOf, Messages, linked-within}
 use Rattle.machine.specs.Safety.Rights.{Right, toRead, toWrite, granted, sentOf, passes, passes-next, passes-with, passes-sent, granted-with, sent-with, granted-sent, sent-sent, granted-both, granted-done, granted-next, sent-granting, sent-done, sent-next}
 use Rattle.machine.specs.Safety.Underway.{here, here-same, here-other, here-zero, upd-more, weigh, toward, bySender, outOf, underWay, way-posted, way-posted-one, way-delivered, way-carried, passMessage, weigh-passed, passed-all, dones, weigh-dones, weigh-dones-none, tells, pending}
 
@@ -184,9 +184,9 @@ module _ (c : Setup) (laws : Links (c .tasks)) (place : ℕ → Place) (mail : �
         passes-next toRead (reader (c .tasks) (m .to)) after,
         passes-next toWrite (reader (c .tasks) (m .to)) after,
       ) in
-      record { to = at-next; brings = omega arith; unsent = λ r. sent-granting r _ _; from = λ b e. (omega (arith, some-same (m .to) b e, delivered-sound .to), h) }
+      record { to = at-next; brings = omega arith; unsent = λ r. sent-granting r _ _; from = λ b e. (omega (arith, some-same (m .to) b e, delivered-sound .to), (h, refl)) }
 
-  deliver-told : (o : Option ℕ) → ((b : ℕ) → o ≡ some b → (b < total (c .tasks)) × (1 ≤ m .flags .read + m .flags .write)) → Told (c .tasks) (noticeOf c m o)
+  deliver-told : (o : Option ℕ) → ((b : ℕ) → o ≡ some b → (b < total (c .tasks)) × RightsOnly (m .flags)) → Told (c .tasks) (noticeOf c m o)
   deliver-told none h = tt
   deliver-told (some b) h = h b refl
 
@@ -311,7 +311,7 @@ module _ (c : Setup) (laws : Links (c .tasks)) (place : ℕ → Place) (mail : �
 
     keeps-notify : MessagesOf c (upd place w idle) mail (upd flags b (with (flags b) (sent g))) status creation
     keeps-notify =
-        let (in-plan, one) = to in
+        let (in-plan, rights) = to in
         record {
           made = i .made;
           grants = λ r a l.
@@ -337,7 +337,7 @@ module _ (c : Setup) (laws : Links (c .tasks)) (place : ℕ → Place) (mail : �
           beyond = upd-all (λ a f. total (c .tasks) ≤ a → f ≡ noFlag) flags b _ (λ h. absurd (omega arith)) (λ a ne. i .beyond a);
         }
       where
-        to : (b < total (c .tasks)) × (1 ≤ g .read + g .write)
+        to : (b < total (c .tasks)) × RightsOnly g
         to = rw p at (i .told w)
 
   module _ (j : ℕ) (z : hasEnded (status j) ≡ 0) (in-plan : j < length (c .tasks)) where
