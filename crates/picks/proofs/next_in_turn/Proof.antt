@@ -1,0 +1,20 @@
+-- `picks::next_in_turn` meets its contract.
+-- Assumes nothing.
+use mathlib.Core.Path.{sym}
+use native.Mathlib.Omega.{arith}
+use borrow.Author.Needs.{needs}
+use Rattle.picks.specs.SourceLaws.{turn-on, turn-back}
+use Rattle.picks.proofs.next_in_turn.Statement.{statement}
+use Rattle.picks.proofs.next_in_turn.Tie as tie
+
+add-next : tie.Need-add-next
+add-next c = search needs
+
+returns : tie.Need-returns
+returns c = let w = c .before .args .worker in omega (arith, turn-on (c .before .args .workers) w (omega arith))
+
+returns-2 : tie.Need-returns-2
+returns-2 c = let w = c .before .args .worker in sym (turn-back (c .before .args .workers) w (omega arith))
+
+pub next-in-turn-spec : {M : Type 1} → statement M
+next-in-turn-spec = tie.close (tie.spec add-next returns returns-2)
