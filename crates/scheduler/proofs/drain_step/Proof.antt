@@ -1,0 +1,141 @@
+-- `drain_step` meets its contract.
+use borrow.Author.Needs.{needs}
+use Prim.Native.Nat.{_+_, _*_, _<_}
+use native.Mathlib.Omega.{arith}
+use mathlib.Core.Path.{_≡_, ap, _∙_}
+use lib.ListN.{length, getD}
+use Rattle.scheduler.specs.Shares.{share}
+use Rattle.scheduler.proofs.Lending.{share-lent, share-length}
+use Rattle.scheduler.proofs.Pushing.{drained-below, drained-few, drained-room, emptied-at, emptied-long, drain-acts}
+use Rattle.scheduler.proofs.Picking.{share-at, second-lent, both-back}
+use Rattle.scheduler.proofs.drain_step.Statement.{statement}
+use Rattle.scheduler.proofs.drain_step.Tie as tie
+
+-- the worker whose queue is drained
+queue-is : (s : tie.Start) → getD (share (s .args .store .now) (s .args .w)) 1 0 ≡ getD (s .args .store .now) (s .args .w * 256 + 1) 0
+queue-is s = share-at (s .args .store .now) (s .args .w) 1 (omega arith)
+
+below : (s : tie.Start) → getD (s .args .store .now) (s .args .w * 256 + 1) 0 < 32
+below s =
+    let (wait, registrations, tickets, cells, tasks, accesses, setup, state, long, holds, fit) = s .pre .1 in
+    drained-below holds fit (s .pre .0 .2) (queue-is s)
+
+mul-at : tie.Need-mul-at
+mul-at c = search needs
+
+add-end : tie.Need-add-end
+add-end c = search needs
+
+add-k : tie.Need-add-k
+add-k c = search needs
+
+mul-k : tie.Need-mul-k
+mul-k c = search needs
+
+slice-read-k : tie.Need-slice-read-k
+slice-read-k c = search needs
+
+mul-from : tie.Need-mul-from
+mul-from c = omega (arith, below (c .before .before .before), c .before .before .before .pre .0)
+
+add-to : tie.Need-add-to
+add-to c = omega (arith, below (c .before .before .before), c .before .before .before .pre .0)
+
+mul-drain : tie.Need-mul-drain
+mul-drain c = omega (arith, below (c .before .before .before), c .before .before .before .pre .0)
+
+sub-drain : tie.Need-sub-drain
+sub-drain c = search needs
+
+part-drain-start : tie.Need-part-drain-start
+part-drain-start c = search needs
+
+part-drain-end : tie.Need-part-drain-end
+part-drain-end c = omega (arith, below (c .before .before .before), c .before .before .before .pre .0)
+
+drain-requires : tie.Need-drain-requires
+drain-requires c κs =
+    let s = c .before .before .before .before .before in
+    let (wait, registrations, tickets, cells, tasks, accesses, setup, state, long, holds, fit) = s .pre .1 in
+    let store = s .args .store .now in
+    let w = s .args .w in
+    let k = getD store (w * 256 + 1) 0 in
+    let lent = share-lent store k (below s) (s .pre .0 .0) in
+    (ap length lent ∙ share-length store k (below s) (s .pre .0 .0), long .ready, holds .ready-at, rw lent (drained-room holds fit (s .pre .0 .2) (queue-is s)), rw lent (drained-few holds fit (s .pre .0 .2) (queue-is s)))
+
+mul-drained : tie.Need-mul-drained
+mul-drained c = search needs
+
+sub-drained : tie.Need-sub-drained
+sub-drained c = search needs
+
+part-drained-start : tie.Need-part-drained-start
+part-drained-start c = search needs
+
+part-drained-end : tie.Need-part-drained-end
+part-drained-end c = search needs
+
+drained-requires : tie.Need-drained-requires
+drained-requires c κs =
+    let d = c .before .before .before .before .before in
+    let s = d .before .before .before .before .before .before in
+    let (wait, registrations, tickets, cells, tasks, accesses, setup, state, long, holds, fit) = s .pre .1 in
+    let store = s .args .store .now in
+    let w = s .args .w in
+    let k = getD store (w * 256 + 1) 0 in
+    let one = d .drain .last .0 in
+    let lent = second-lent store k w (below s) (s .pre .0 .1) (s .pre .0 .0) one (d .drain .kept .0) in
+    let emptied = rw (share-lent store k (below s) (s .pre .0 .0)) at (d .drain .ensures .0) in
+    (rw lent (emptied-long holds fit (s .pre .0 .2) (queue-is s) emptied), below s, rw lent (emptied-at holds fit (s .pre .0 .2) (queue-is s) emptied))
+
+same-length : tie.Need-same-length
+same-length c = search needs
+
+same-length-2 : tie.Need-same-length-2
+same-length-2 c = search needs
+
+returns : tie.Need-returns
+returns c =
+    let e = c .before .before in
+    let d = e .before .before .before .before .before .before in
+    let s = d .before .before .before .before .before .before in
+    let store = s .args .store .now in
+    let w = s .args .w in
+    let k = getD store (w * 256 + 1) 0 in
+    let one = d .drain .last .0 in
+    let two = e .drained .last .0 in
+    let long = s .pre .0 .0 in
+    let few = s .pre .0 .1 in
+    let lent = share-lent store k (below s) long in
+    let lent2 = second-lent store k w (below s) few long one (d .drain .kept .0) in
+    let back = both-back store k w (below s) few long one (d .drain .kept .0) two (e .drained .kept .0) in (
+      λ wait registrations tickets cells tasks accesses setup state size holds fit. rw (back .0)
+          (drain-acts holds fit (s .pre .0 .2) (queue-is s) (rw lent at (d .drain .ensures .0)) two (d .drain .last .1 .0) (d .drain .result) (rw lent at (d .drain .ensures .1))
+          (λ x q ms js. rw lent2 at (e .drained .ensures setup x q ms js (holds .workers)))),
+      back .1,
+    )
+
+pub drain-step-spec : {M : Type 1} → statement M
+drain-step-spec =
+    tie.close
+    (tie.spec
+    mul-at
+    add-end
+    add-k
+    mul-k
+    slice-read-k
+    mul-from
+    add-to
+    mul-drain
+    sub-drain
+    part-drain-start
+    part-drain-end
+    drain-requires
+    mul-drained
+    sub-drained
+    part-drained-start
+    part-drained-end
+    drained-requires
+    same-length
+    same-length-2
+    returns)

@@ -1,0 +1,136 @@
+-- `pick` meets its contract.
+use borrow.Author.Needs.{needs}
+use mathlib.Core.Path.{sym}
+use mathlib.Core.Logic.{inl, inr, ⊎-elim}
+use Rattle.machine.specs.State.{picked}
+use Rattle.scheduler.specs.Shares.{share}
+use Rattle.scheduler.proofs.Lending.{share-lent}
+use Rattle.scheduler.proofs.Picking.{share-place, returned-shares, returned-later, drains-there, drains-not, counted-long, counted-holds, acted-holds}
+use Rattle.scheduler.proofs.Given.{workers-few}
+use Rattle.scheduler.proofs.pick.Statement.{statement}
+use Rattle.scheduler.proofs.pick.Tie as tie
+
+add-r : tie.Need-add-r
+add-r c = search needs
+
+mul-at : tie.Need-mul-at
+mul-at c = search needs
+
+add-end : tie.Need-add-end
+add-end c = search needs
+
+mul-place : tie.Need-mul-place
+mul-place c = search needs
+
+slice-read-place : tie.Need-slice-read-place
+slice-read-place c = search needs
+
+drain-step-requires : tie.Need-drain-step-requires
+drain-step-requires c κs =
+    let s = c .before .before .before .before .before .before .before .before .before .before .before .before .before .before in
+    let (setup, state, long, holds, fit) = s .pre .1 in (
+      (s .pre .0, workers-few fit _ (fit .worker), rw (share-place (s .args .store .now) (s .args .w)) (drains-there _ (c .before .before .before .if1 .left) (c .before .before .if2 .taken))),
+      (s .args .wait .now, s .args .registrations .now, s .args .tickets .now, s .args .cells .now, s .args .tasks .now, s .args .accesses .now, setup, picked state, counted-long long, counted-holds holds, fit),
+    )
+
+mul-step-own : tie.Need-mul-step-own
+mul-step-own c = search needs
+
+sub-step-own : tie.Need-sub-step-own
+sub-step-own c = search needs
+
+part-step-own-start : tie.Need-part-step-own-start
+part-step-own-start c = search needs
+
+part-step-own-end : tie.Need-part-step-own-end
+part-step-own-end c = search needs
+
+step-own-requires : tie.Need-step-own-requires
+step-own-requires c κs =
+    let s = c .before .before .before .before .before .before .before .before .before .before .before .before .before .before .before .before .before .before .before in
+    let (setup, state, long, holds, fit) = s .pre .1 in
+    let store = s .args .store .now in
+    let w = s .args .w in
+    let lent = share-lent store w (workers-few fit _ (fit .worker)) (s .pre .0) in (
+      record { c = setup; s = picked state; shares = share store; lent = sym lent; long = counted-long long; holds = counted-holds holds; fit = fit },
+      rw (lent, share-place store w) (drains-not _ (⊎-elim (λ t. inl (t .taken)) (λ t. inr (t .1 .left)) (c .before .before .before .before .before .before .before .before .if1 .came))),
+    )
+
+same-length : tie.Need-same-length
+same-length c = search needs
+
+same-length-2 : tie.Need-same-length-2
+same-length-2 c = search needs
+
+returns : tie.Need-returns
+returns c =
+    let s = c .before .before .before .before .before .before .before .before .before .before .before .before .before .before .before .before .before .before .before in
+    let d = c .before .before .before .before .drain-step in
+    let (setup, state, long, holds, fit) = s .pre .1 in
+    (λ k u h f. acted-holds k u (s .args .w) (d .ensures .0 (s .args .wait .now) (s .args .registrations .now) (s .args .tickets .now) (s .args .cells .now) (s .args .tasks .now) (s .args .accesses .now) k (picked u) (counted-long long) (counted-holds h) f), d .ensures .1)
+
+same-length-3 : tie.Need-same-length-3
+same-length-3 c = search needs
+
+same-length-4 : tie.Need-same-length-4
+same-length-4 c = search needs
+
+same-length-5 : tie.Need-same-length-5
+same-length-5 c = search needs
+
+same-length-6 : tie.Need-same-length-6
+same-length-6 c = search needs
+
+same-length-7 : tie.Need-same-length-7
+same-length-7 c = search needs
+
+same-length-8 : tie.Need-same-length-8
+same-length-8 c = search needs
+
+same-length-9 : tie.Need-same-length-9
+same-length-9 c = search needs
+
+same-length-10 : tie.Need-same-length-10
+same-length-10 c = search needs
+
+returns-2 : tie.Need-returns-2
+returns-2 c =
+    let d = c .before .before .before .before .before .before .before .before .before .before .before .before .before .before .step-own in
+    let s = c .before .before .before .before .before .before .before .before .before .before .before .before .before .before .before .before .before .before .before .before .before .before .before .before .before .before .before .before .before .before .before .before .before .before in
+    let (setup, state, long, holds, fit) = s .pre .1 in
+    let store = s .args .store .now in
+    let w = s .args .w in
+    let few = workers-few fit _ (fit .worker) in
+    let back = d .kept .1 .1 .1 .1 .1 .1 .1 .1 .0 in
+    let own = d .last .1 .1 .1 .1 .1 .1 .1 .1 .0 in (
+      λ k u h f. rw (returned-shares store w few (s .pre .0) own back) (acted-holds k u w (d .ensures k (picked u) (share store) (sym (share-lent store w few (s .pre .0))) (counted-long long) (counted-holds h) f)),
+      returned-later store w few (s .pre .0) own back,
+    )
+
+pub pick-spec : {M : Type 1} → statement M
+pick-spec =
+    tie.close
+    (tie.spec
+    add-r
+    mul-at
+    add-end
+    mul-place
+    slice-read-place
+    drain-step-requires
+    mul-step-own
+    sub-step-own
+    part-step-own-start
+    part-step-own-end
+    step-own-requires
+    same-length
+    same-length-2
+    returns
+    same-length-3
+    same-length-4
+    same-length-5
+    same-length-6
+    same-length-7
+    same-length-8
+    same-length-9
+    same-length-10
+    returns-2)
