@@ -1,0 +1,6 @@
+pub mod Stores
+pub mod Searches
+pub mod Chains
+pub mod Plans
+pub mod Tasks
+pub mod Accesses

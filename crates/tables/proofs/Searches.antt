@@ -1,0 +1,62 @@
+-- The search for the last number below another that passes a test. Assumes nothing.
+use Prim.Native.Nat.{ℕ, zero, suc, _-_, _≤_, _<_}
+use mathlib.Core.Path.{_≡_, refl, sym, ap, _∙_}
+use mathlib.Core.Bool.{Bool, true, false}
+use mathlib.Core.Option.{Option, none, some}
+use native.Mathlib.Omega.{arith}
+use Rattle.runs.specs.Update.{clash}
+use Rattle.machine.specs.Accesses.{lastBelow}
+use Rattle.scheduler.specs.Codes.{optionCode}
+
+module _ (test : ℕ → Bool) where
+  pub last-zero : lastBelow test 0 ≡ none
+  unfolding lastBelow
+  last-zero = refl
+
+  pub last-found : (n : ℕ) → test n ≡ true → lastBelow test (suc n) ≡ some n
+  unfolding lastBelow
+  last-found n e = rw (e, lastBelow)
+
+  pub last-passed : (n : ℕ) → test n ≡ false → lastBelow test (suc n) ≡ lastBelow test n
+  unfolding lastBelow
+  last-passed n e = rw (e, lastBelow)
+
+  pub last-low : (n : ℕ) → optionCode (lastBelow test n) ≤ n
+  unfolding lastBelow
+  last-low zero = omega arith
+  last-low (suc n) = go (test n) (lastBelow test n) (last-low n)
+    where
+      go : (b : Bool) (o : Option ℕ) → optionCode o ≤ n → optionCode (elim b [ true ↦ some n | false ↦ o ]) ≤ suc n
+      go true o h = omega arith
+      go false o h = omega arith
+
+-- only the numbers below count
+pub last-same : (f g : ℕ → Bool) (n : ℕ) → ((b : ℕ) → b < n → f b ≡ g b) → lastBelow f n ≡ lastBelow g n
+unfolding lastBelow
+last-same f g zero h = refl
+last-same f g (suc n) h = go (f n) (g n) (h n (omega arith)) (last-same f g n (λ b l. h b (omega arith)))
+  where
+    go : (b c : Bool) → b ≡ c → {o p : Option ℕ} → o ≡ p → _≡_ {A = Option ℕ} (elim b [ true ↦ some n | false ↦ o ]) (elim c [ true ↦ some n | false ↦ p ])
+    go true true e q = refl
+    go true false e q = clash (cc)
+    go false true e q = clash (cc)
+    go false false e q = q
+
+-- ---- a search that goes down from n and has come to i
+
+module _ (test : ℕ → Bool) (n : ℕ) where
+  pub search-found : (i : ℕ) → 0 < i → test (i - 1) ≡ true → lastBelow test i ≡ lastBelow test n → i ≡ optionCode (lastBelow test n)
+  search-found zero l e h = absurd (omega arith)
+  search-found (suc i) l e h =
+      let down : suc i - 1 ≡ i = omega arith in
+      ap optionCode (sym (last-found test i (rw down at e)) ∙ h)
+
+  pub search-on : (i : ℕ) → 0 < i → test (i - 1) ≡ false → lastBelow test i ≡ lastBelow test n → lastBelow test (i - 1) ≡ lastBelow test n
+  search-on zero l e h = absurd (omega arith)
+  search-on (suc i) l e h =
+      let down : suc i - 1 ≡ i = omega arith in
+      rw down (sym (last-passed test i (rw down at e)) ∙ h)
+
+  pub search-none : (i : ℕ) → i ≤ 0 → lastBelow test i ≡ lastBelow test n → 0 ≡ optionCode (lastBelow test n)
+  search-none zero l h = ap optionCode (sym (last-zero test) ∙ h)
+  search-none (suc i) l h = absurd (omega arith)

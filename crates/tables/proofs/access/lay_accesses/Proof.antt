@@ -1,0 +1,79 @@
+-- `tables::access::lay_accesses` meets its contract: so many of the task's accesses are laid.
+-- Assumes nothing.
+use borrow.Author.Needs.{needs}
+use native.Mathlib.Omega.{arith}
+use Prim.Native.Nat.{suc, _+_, _-_, _≤_}
+use mathlib.Core.Path.{_≡_, sym, _∙_}
+use mathlib.Core.List.{List}
+use lib.ListN.{length}
+use Rattle.plan.specs.Plan.{Task}
+use Rattle.machine.specs.Safety.LinkLaws.{total as Total}
+use Rattle.tables.specs.Laid.{Laid, AreAccesses}
+use Rattle.tables.proofs.Plans.{one-access}
+use Rattle.tables.proofs.access.lay_accesses.Statement.{statement}
+use Rattle.tables.proofs.access.lay_accesses.Tie as tie
+
+abbrev Inv-loop : tie.InvT-loop
+Inv-loop accesses₀ n task at total touches k₀ accesses k =
+    (k ≤ n) × (length accesses ≡ 4096) × ((ts : List Task) → Total ts ≡ total → AreAccesses ts task at n touches → Laid ts at accesses₀ → Laid ts (at + k) accesses)
+
+abbrev μ-loop : tie.MeasureT-loop
+μ-loop accesses₀ n task at total touches k₀ accesses k = n - k
+
+loop-holds : tie.Need-loop-holds Inv-loop μ-loop
+loop-holds c = (omega arith, c .before .pre .0, λ ts e h l. let z : c .before .args .at + 0 ≡ c .before .args .at = omega arith in rw z l)
+
+mul-touch : tie.Need-mul-touch Inv-loop μ-loop
+mul-touch c = omega arith
+
+array-copy-out-touch : tie.Need-array-copy-out-touch Inv-loop μ-loop
+array-copy-out-touch c = omega arith
+
+add-lay-access : tie.Need-add-lay-access Inv-loop μ-loop
+add-lay-access c = omega arith
+
+reads-of-requires : tie.Need-reads-of-requires Inv-loop μ-loop
+reads-of-requires c κs = search needs
+
+lay-access-requires : tie.Need-lay-access-requires Inv-loop μ-loop
+lay-access-requires c κs = omega arith
+
+add-k : tie.Need-add-k Inv-loop μ-loop
+add-k c = omega arith
+
+loop-less : tie.Need-loop-less Inv-loop μ-loop
+loop-less c = omega arith
+
+loop-again : tie.Need-loop-again Inv-loop μ-loop
+loop-again c =
+    let a = c .before .before .before .before .before .before .before .before .before .args in
+    let x = c .before .before .before .before .before .before .before .loop in
+    let more : a .at + (x .k + 1) ≡ suc (a .at + x .k) = omega arith in (
+      omega arith,
+      c .before .before .lay-access .kept .0 ∙ x .inv .1,
+      λ ts e h l. rw more (c .before .before .lay-access .ensures ts e (rw (c .before .before .before .reads-of .ensures) (one-access ts (a .task) (a .at) (a .n) (x .k) (a .t2) h (c .before .before .before .before .before .before .loop-test .taken))) (x .inv .2 ts e h l)),
+    )
+
+same-length : tie.Need-same-length Inv-loop μ-loop
+same-length c = c .before .loop .inv .1 ∙ sym (c .before .before .before .pre .0)
+
+returns : tie.Need-returns Inv-loop μ-loop
+returns c = λ ts e h l. let all : c .before .loop .k ≡ c .before .before .before .args .n = omega arith in rw all at (c .before .loop .inv .2 ts e h l)
+
+pub lay-accesses-spec : {M : Type 1} → statement M
+lay-accesses-spec =
+    tie.close
+    (tie.spec
+    Inv-loop
+    μ-loop
+    loop-holds
+    mul-touch
+    array-copy-out-touch
+    add-lay-access
+    reads-of-requires
+    lay-access-requires
+    add-k
+    loop-less
+    loop-again
+    same-length
+    returns)
