@@ -1,0 +1,22 @@
+-- What a summary, the array of the tasks, that of their labels' places and the plan's text say of a state.
+use Prim.Native.Nat.{ℕ}
+use mathlib.Core.Path.{_≡_}
+use mathlib.Core.List.{List}
+use lib.ListN.{length}
+use Rattle.machine.specs.State.{Setup, State}
+use Rattle.machine.specs.Step.{finished}
+use Rattle.scheduler.specs.Codes.{optionCode}
+use Rattle.scheduler.specs.Rows.{TaskRows}
+use Rattle.scheduler.specs.Labels.{Labels}
+use Rattle.report.specs.Report.{owner}
+use Rattle.report.specs.declared.Summary.{Summary}
+
+pub record Shown (c : Setup) (s : State) (summary : Summary) (table places text : List ℕ) : Type 0 where
+  pub finished : summary .finished ≡ finished c s
+  pub picks : summary .picks ≡ s .picks
+  pub head : summary .head ≡ s .lock .head
+  pub tail : summary .tail ≡ s .lock .tail
+  pub owner : summary .owner ≡ optionCode (owner c s)
+  pub count : summary .tasks ≡ length (c .tasks)
+  pub rows : TaskRows (c .tasks) table (s .count) (s .status) (s .runner) (s .receipt) (s .ending)
+  pub labels : Labels (c .tasks) text places

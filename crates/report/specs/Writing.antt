@@ -1,0 +1,27 @@
+-- Writing bytes into an array from a place on.
+use Prim.Native.Nat.{ℕ, _+_, _≤_}
+use mathlib.Core.Path.{_≡_}
+use mathlib.Core.List.{List, [], _∷_, _++_}
+use lib.ListN.{length}
+use lib.Seq.{sets}
+use Rattle.plan.specs.Text.{line}
+
+-- what is written: bytes, a field with the tab or the line feed after it, or the fields of a line
+pub data Said : Type 0 where
+  text : List ℕ → Said
+  field : List ℕ → ℕ → Said
+  fields : List (List ℕ) → Said
+
+abbrev pub said : Said → List ℕ
+said (text bs) = bs
+said (field f end) = f ++ end ∷ []
+said (fields fs) = line fs
+
+-- it has room from a place on
+pub record Room (out : List ℕ) (at : ℕ) (what : Said) : Type 0 where
+  pub fits : at + length (said what) ≤ length out
+
+-- it was written from a place on, and nothing else; `next` is the place after it
+pub record Wrote (out : List ℕ) (at : ℕ) (what : Said) (next : ℕ) (after : List ℕ) : Type 0 where
+  pub place : next ≡ at + length (said what)
+  pub stores : after ≡ sets out at (said what)
