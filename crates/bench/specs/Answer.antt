@@ -15,6 +15,8 @@ use Rattle.reader.specs.Verdict.{verdict}
 use Rattle.machine.specs.State.{Setup, State}
 use Rattle.machine.specs.Step.{after}
 use Rattle.report.specs.Report.{report}
+use Rattle.bench.specs.declared.Answer.{Answer}
+use Rattle.bench.specs.declared.Answer.the-variants.{Reports, Refuses}
 
 -- a ring of 64 slots, queues of 8
 abbrev pub setupOf : Plan → Setup
@@ -31,11 +33,7 @@ reportOf p limit = report (setupOf p) (reached p limit)
 abbrev pub check : List ℕ → Checked
 check text = verdict (reading text)
 
--- the answer of a run: the picks taken and the length of the report, or a refusal and its line
-pub data Answer : Type 0 where
-  reports : ℕ → ℕ → Answer
-  refuses : Refusal → ℕ → Answer
-
+-- the answer of a run, and what it leaves
 pub record Outcome : Type 0 where
   pub answer : Answer
   pub store : List ℕ
@@ -50,14 +48,14 @@ module _ (limit : ℕ) (store output : List ℕ) where
   cleared = replicate storeSize 0 ++ drop storeSize store
 
   abbrev pub refusal : Refusal → ℕ → List ℕ → Outcome
-  refusal r n left = record { answer = refuses r n; store = left; output = output }
+  refusal r n left = record { answer = Refuses r n; store = left; output = output }
 
   -- the report is written where the output is long enough
   unfoldable pub written : ℕ → List ℕ → Outcome
   written picks bs =
       elim (ltb (length output) (length bs)) [
         | true ↦ refusal OutputTooShort 0 cleared
-        | false ↦ record { answer = reports picks (length bs); store = cleared; output = bs ++ drop (length bs) output }
+        | false ↦ record { answer = Reports picks (length bs); store = cleared; output = bs ++ drop (length bs) output }
       ]
 
   unfoldable pub played : Reading → Outcome

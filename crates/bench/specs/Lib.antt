@@ -1,6 +1,9 @@
 pub mod Answer
+pub mod Written
+pub mod Limited
 pub mod Computed
 pub mod Examples
 pub mod Picked
 pub mod Sizes
 pub mod AcceptedRuns
+pub mod OwnAnswer

@@ -39,7 +39,7 @@ unfolding seededPicks
 picks-seeded W x zero h = picks-nil W
 picks-seeded W x (suc n) h = picks-cons W _ (seededPicks W (nextState x) n) (mod-lt (nextState x / 2 ^ 32) h) (picks-seeded W (nextState x) n h)
 
-picks-order : (W : ℕ) (o : Order) → 0 < W → OrderFormed W o → Picks W (picksOf W o)
+pub picks-order : (W : ℕ) (o : Order) → 0 < W → OrderFormed W o → Picks W (picksOf W o)
 picks-order W (picks worker n) h f = picks-replicate W n worker (f .0)
 picks-order W (rounds n) h f = picks-times W n (numbersFrom 0 W) (picks-from W 0 W (omega arith))
 picks-order W (seeded seed n) h f = picks-seeded W seed n h

@@ -1,1 +1,65 @@
-// The bench: what a check and a run answer is in specs/. There is no code here yet.
+// The bench: checks a plan text, and runs it. `specs/Answer.antt` says what both answer and what they leave in store and output.
+ghost use mathlib.Core.Path.{_≡_};
+ghost use mathlib.Core.List.{_++_};
+ghost use Prim.Native.Nat.{_≤_};
+ghost use lib.ListN.{length, drop, replicate};
+ghost use Rattle.bench.specs.Answer.{Outcome, check as checks, run as runs};
+use plan::Refusal;
+use play::run_plan;
+use reader::Checked;
+
+pub mod owner; // owner.rt: who owns the lock
+pub mod play; // play.rt: a run of an accepted plan
+
+// What a run gives: the picks taken and the report's length, or a refusal and its line, which is 0 if it is not the plan's.
+pub enum Answer {
+    Reports { picks: u64, length: usize },
+    Refuses(Refusal, u64),
+}
+
+const TEXT_SIZE: usize = 65536;
+
+const STORE_SIZE: usize = 8192;
+
+// Checks a plan text.
+pub fn check(text: &[u8]) -> Checked
+    ensures { λ r. ⌜ r ≡ checks (now (text .entry)) ⌝ }
+{
+    reader::check(text)
+}
+
+// Sets the first n numbers of a store to 0.
+fn clear(store: &mut [u64], n: usize)
+    requires { ⌜ n ≤ length (now store) ⌝ }
+    ensures { λ _. ⌜ now (store .exit) ≡ replicate n 0 ++ drop n (now (store .entry)) ⌝ }
+{
+    let mut i: usize = 0;
+    while i < n {
+        store[i] = 0;
+        i += 1;
+    }
+}
+
+// Runs a plan text, with as many picks as the limit allows, and writes the report.
+pub fn run(text: &[u8], limit: u64, store: &mut [u64], output: &mut [u8]) -> Answer
+    ensures { λ r. ⌜ record { answer = r; store = now (store .exit); output = now (output .exit) }
+        ≡ runs limit (now (store .entry)) (now (output .entry)) (now (text .entry)) ⌝ }
+{
+    if TEXT_SIZE < text.len() {
+        return Answer::Refuses(Refusal::TextTooLong, 0);
+    }
+    if store.len() < STORE_SIZE {
+        return Answer::Refuses(Refusal::StoreTooShort, 0);
+    }
+    clear(store, STORE_SIZE);
+    let read = reader::read(text);
+    let checked = read.checked;
+    match checked {
+        Checked::Refused(refusal, line) => Answer::Refuses(refusal, line),
+        Checked::Accepted => {
+            let answer = run_plan(text, read, limit, store, output);
+            clear(store, STORE_SIZE);
+            answer
+        }
+    }
+}

@@ -74,8 +74,8 @@ fn theorem(seed: u64) -> String {
     let mut store = vec![IN_STORE; call.store];
     let mut output = vec![IN_OUTPUT; call.output];
     let answer = match run::run(&call.text, call.limit, &mut store, &mut output) {
-        Ok(done) => format!("reports {} {}", done.picks, done.length),
-        Err(no) => format!("refuses {} {}", REFUSALS[no.number as usize - 1], no.line),
+        Ok(done) => format!("Reports {} {}", done.picks, done.length),
+        Err(no) => format!("Refuses {} {}", REFUSALS[no.number as usize - 1], no.line),
     };
     let zeros = store.iter().take_while(|&&n| n == 0).count();
     let written = output
@@ -102,7 +102,7 @@ fn module(first: u64, count: u64) -> String {
         "use Rattle.plan.specs.declared.Refusal.the-variants.{{{}}}",
         REFUSALS.join(", ")
     );
-    out.push_str("use Rattle.bench.specs.Answer.{run, written, played, reports, refuses}\nuse Rattle.bench.specs.Computed.{computed}\n\n");
+    out.push_str("use Rattle.bench.specs.Answer.{run, written, played}\nuse Rattle.bench.specs.declared.Answer.the-variants.{Reports, Refuses}\nuse Rattle.bench.specs.Computed.{computed}\n\n");
     for seed in first..first + count {
         out.push_str(&theorem(seed));
     }

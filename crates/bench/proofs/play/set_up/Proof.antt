@@ -1,0 +1,63 @@
+-- `play::set_up` meets its contract.
+use lib.ListN.{length}
+use Rattle.plan.specs.Accepted.{accepted-well-formed}
+use Rattle.bench.proofs.Starting.{held-set-up}
+use borrow.Author.Needs.{needs}
+use Rattle.bench.proofs.play.set_up.Statement.{statement}
+use Rattle.bench.proofs.play.set_up.Tie as tie
+
+lay-out-requires : tie.Need-lay-out-requires
+lay-out-requires c κs = search needs
+
+start-requires : tie.Need-start-requires
+start-requires c κs = search needs
+
+fresh-requires : tie.Need-fresh-requires
+fresh-requires c κs = search needs
+
+same-length : tie.Need-same-length
+same-length c = search needs
+
+same-length-2 : tie.Need-same-length-2
+same-length-2 c = search needs
+
+same-length-3 : tie.Need-same-length-3
+same-length-3 c = search needs
+
+same-length-4 : tie.Need-same-length-4
+same-length-4 c = search needs
+
+same-length-5 : tie.Need-same-length-5
+same-length-5 c = c .before .before .before .before .before .before .before .before .before .before .before .before .before .before .before .before .before .before .before .before .lay-out .kept .1 .0
+
+same-length-6 : tie.Need-same-length-6
+same-length-6 c = c .before .before .before .before .before .before .before .before .before .before .before .before .before .before .before .before .before .before .before .before .lay-out .kept .1 .1 .0
+
+same-length-7 : tie.Need-same-length-7
+same-length-7 c = search needs
+
+returns : tie.Need-returns
+returns c text p list store e says long zeros =
+    let args = c .before .before .before .before .before .before .before .before .before .before .before .before .before .before .before .before .before .before .before .before .before .before .before .before .before .before .before .before .before .before .before .args in
+    let laid = c .before .before .before .before .before .before .before .before .before .before .before .before .before .before .before .before .before .before .before .before .lay-out .ensures text p e says in
+    let started = c .before .before .before .before .before .before .before .before .before .start .ensures in (
+      held-set-up p _ _ _ _ _ _ _ _ (length (args .wait .now)) (length (args .registrations .now)) (length (args .tickets .now)) (length (args .cells .now)) list _ _ store (c .fresh .ensures) (says .workers) (says .count) (started .1 .0) (started .1 .1 .0) (started .1 .1 .1) (started .1 .1 .2)
+          (accepted-well-formed text p e .workers-few) long zeros (started .0) (laid .0) (laid .1),
+      laid .2,
+    )
+
+pub set-up-spec : {M : Type 1} → statement M
+set-up-spec =
+    tie.close
+    (tie.spec
+    lay-out-requires
+    start-requires
+    fresh-requires
+    same-length
+    same-length-2
+    same-length-3
+    same-length-4
+    same-length-5
+    same-length-6
+    same-length-7
+    returns)

@@ -1,0 +1,71 @@
+-- What the run of an accepted text itself answers: its report, and `finished` where the finishing figure applies.
+use Prim.Native.Nat.{ℕ, _≤_}
+use mathlib.Core.Path.{_≡_, refl, ap, _∙_}
+use mathlib.Core.Bool.{Bool, true, false, cond}
+use mathlib.Core.List.{List, [], _∷_, _++_, append-assoc}
+use lib.ListN.{length, drop}
+use borrow.Author.Tests.{le-ltb}
+use Rattle.runs.specs.Update.{clash}
+use Rattle.runs.specs.Picks.{Regular}
+use Rattle.plan.specs.declared.Refusal.the-variants.{TextTooLong}
+use Rattle.plan.specs.Text.{lineFeed, bytes, decimal, split, line}
+use Rattle.plan.specs.Plan.{Plan}
+use Rattle.plan.specs.Reading.{accepted, refused, readLines, emptyPlan, isTooLong, reading}
+use Rattle.plan.specs.Orders.{picksUpTo}
+use Rattle.machine.specs.Figures.{finishingFigure}
+use Rattle.report.specs.Report.{outcomeLine, taskLines, lockLine, report}
+use Rattle.bench.specs.declared.Answer.the-variants.{Reports}
+use Rattle.bench.specs.Answer.{setupOf, reached, reportOf, storeSize, written, played, run}
+use Rattle.bench.specs.Written.{written-whole}
+use Rattle.bench.specs.AcceptedRuns.{own-finish}
+
+-- no accepted text is too long
+not-too-long : (text : List ℕ) (p : Plan) → reading text ≡ accepted p → isTooLong text ≡ false
+unfolding reading
+not-too-long text p e = go (isTooLong text) refl e
+  where
+    go : (b : Bool) → isTooLong text ≡ b → cond b (refused TextTooLong 0) (readLines emptyPlan 1 (split lineFeed text)) ≡ accepted p → isTooLong text ≡ false
+    go true d z = clash (cc)
+    go false d z = d
+
+-- the bytes begin with those
+abbrev pub Begins : List ℕ → List ℕ → Type 0
+Begins bs xs = (rest : List ℕ) × (xs ≡ bs ++ rest)
+
+regroup : (a b c d : List ℕ) → (a ++ b ++ c) ++ d ≡ a ++ (b ++ (c ++ d))
+regroup a b c d = simp append-assoc
+
+report-begins : (p : Plan) (limit : ℕ) (bs xs : List ℕ) → outcomeLine (setupOf p) (reached p limit) ≡ bs → Begins (reportOf p limit) xs → Begins bs xs
+unfolding report
+report-begins p limit bs xs e (rest, f) =
+    let c = setupOf p in
+    let s = reached p limit in
+    let ls = taskLines c s 0 (p .tasks) ++ (lockLine c s ++ rest) in
+    (ls, f ∙ regroup (outcomeLine c s) (taskLines c s 0 (p .tasks)) (lockLine c s) rest ∙ ap (λ (l : List ℕ). l ++ ls) e)
+
+-- ---- the answer of a run of an accepted text, with a store that is long enough
+module _ (text : List ℕ) (p : Plan) (e : reading text ≡ accepted p) (limit : ℕ) (store output : List ℕ) (room : storeSize ≤ length store) where
+  -- the report of the state that the plan's own picks reach, where the output is long enough for it, and else a refusal
+  pub answers : run limit store output text ≡ written limit store output ((reached p limit) .picks) (reportOf p limit)
+  unfolding run played
+  answers = rw (run, not-too-long text p e, le-ltb (length store) storeSize room, e, played)
+
+  module _ (long : length (reportOf p limit) ≤ length output) where
+    -- the answer says how many picks were taken and how long the report is; the output begins with the report
+    pub own-answer : ((run limit store output text) .answer ≡ Reports ((reached p limit) .picks) (length (reportOf p limit)))
+        × Begins (reportOf p limit) ((run limit store output text) .output)
+    own-answer =
+        let w = answers ∙ written-whole limit store output ((reached p limit) .picks) (reportOf p limit) long in
+        (ap (λ o. o .answer) w, (drop (length (reportOf p limit)) output, ap (λ o. o .output) w))
+
+    -- if every B picks in a row include each worker, and there are as many as the finishing figure, the output begins with the line
+    -- that says `finished`, with no more picks taken than that
+    pub own-answer-finishes : (B : ℕ) → Regular (p .workers) B (picksUpTo limit p) → finishingFigure (setupOf p) B ≤ length (picksUpTo limit p)
+        → (picks : ℕ) × (n : ℕ)
+        × ((run limit store output text) .answer ≡ Reports picks n)
+        × (picks ≤ finishingFigure (setupOf p) B)
+        × Begins (line (bytes "E" ∷ bytes "finished" ∷ decimal picks ∷ [])) ((run limit store output text) .output)
+    own-answer-finishes B regular enough =
+        let (a, b) = own-answer in
+        let (f, k) = own-finish text p e limit B regular enough in
+        ((reached p limit) .picks, length (reportOf p limit), a, k, report-begins p limit _ _ f b)
