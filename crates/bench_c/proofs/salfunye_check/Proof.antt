@@ -1,10 +1,10 @@
--- `plan_c::salfunye_check` meets its contract: by the two answers.
+-- `bench_c::salfunye_check` meets its contract: by the two answers.
 -- Assumes nothing.
 use mathlib.Core.Path.{sym, ap, _∙_}
-use Rattle.plan_c.specs.Numbers.{inNumbers}
+use Rattle.bench_c.specs.Numbers.{checkedNumbers}
 use borrow.Author.Needs.{needs}
-use Rattle.plan_c.proofs.salfunye_check.Statement.{statement}
-use Rattle.plan_c.proofs.salfunye_check.Tie as tie
+use Rattle.bench_c.proofs.salfunye_check.Statement.{statement}
+use Rattle.bench_c.proofs.salfunye_check.Tie as tie
 
 check-requires : tie.Need-check-requires
 check-requires c κs = search needs
@@ -19,10 +19,10 @@ number-of-requires : tie.Need-number-of-requires
 number-of-requires c κs = search needs
 
 returns : tie.Need-returns
-returns c = ap inNumbers (sym (c .enum-told .given .1) ∙ c .before .before .check .ensures)
+returns c = ap checkedNumbers (sym (c .enum-told .given .1) ∙ c .before .before .check .ensures)
 
 returns-2 : tie.Need-returns-2
-returns-2 c = rw (c .number-of .ensures) (ap inNumbers (sym (c .before .before .checked .given .1) ∙ c .before .before .before .before .check .ensures))
+returns-2 c = rw (c .number-of .ensures) (ap checkedNumbers (sym (c .before .before .checked .given .1) ∙ c .before .before .before .before .check .ensures))
 
 pub salfunye-check-spec : {M : Type 1} → statement M
 salfunye-check-spec =

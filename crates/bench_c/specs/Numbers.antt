@@ -1,0 +1,16 @@
+-- The answers of a check and of a run in numbers: 0 for what is accepted, else the paper's number of the refusal.
+use Rattle.reader.specs.declared.Checked.{Checked}
+use Rattle.reader.specs.declared.Checked.the-variants.{Accepted, Refused}
+use Rattle.bench.specs.declared.Answer.{Answer}
+use Rattle.bench.specs.declared.Answer.the-variants.{Reports, Refuses}
+use Rattle.plan.specs.Reading.{number}
+use Rattle.bench_c.specs.declared.CheckedC.{CheckedC}
+use Rattle.bench_c.specs.declared.RanC.{RanC}
+
+abbrev pub checkedNumbers : Checked → CheckedC
+checkedNumbers Accepted = record { number = 0; line = 0 }
+checkedNumbers (Refused refusal line) = record { number = number refusal; line = line }
+
+abbrev pub ranNumbers : Answer → RanC
+ranNumbers (Reports picks length) = record { number = 0; line = 0; picks = picks; length = length }
+ranNumbers (Refuses refusal line) = record { number = number refusal; line = line; picks = 0; length = 0 }

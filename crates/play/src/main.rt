@@ -1,0 +1,17 @@
+// Reads a plan from standard input and prints its report, or the line of its refusal.
+use answer::answer;
+use libc::STDIN_FILENO;
+use libc::STDOUT_FILENO;
+
+pub mod answer; // answer.rt: what is printed for a text
+
+fn main() {
+    // one byte more than a plan may have, so that a longer text is refused and not cut
+    let mut text = [0u8; 65537];
+    let size = io::read_full(STDIN_FILENO, &mut text);
+    let mut store = [0; 8192];
+    // no report is longer: `accepted-short` in specs/Short.antt
+    let mut output = [0u8; 11745];
+    let length = answer(&text[..size], &mut store, &mut output);
+    io::write_all(STDOUT_FILENO, &output[..length]);
+}

@@ -1,0 +1,151 @@
+/*
+ * The bench and its lock for C callers.
+ *
+ *   salfunye_check, salfunye_run      libbench_c.a   (rt staticlib bench_c)
+ *   salfunye_lock_...                 liblock_c.a    (rt staticlib lock_c)
+ *
+ * Every function takes any values. What a pointer and its length name must be
+ * there for the call, and no two arguments of a call may overlap; a pointer
+ * whose length is 0 may be anything but NULL. No function keeps a pointer,
+ * takes memory or has state of its own, so calls with different buffers may
+ * run at the same time.
+ */
+#ifndef SALFUNYE_H
+#define SALFUNYE_H
+
+#include <stdbool.h>
+#include <stddef.h>
+#include <stdint.h>
+
+#ifdef __cplusplus
+extern "C" {
+#endif
+
+/* ---- The bench ---- */
+
+/* The longest text that is read, in bytes, and the numbers that a store must have. */
+#define SALFUNYE_TEXT_SIZE 65536
+#define SALFUNYE_STORE_SIZE 8192
+
+/* No report is longer, in bytes. */
+#define SALFUNYE_REPORT_SIZE 11745
+
+/* Refusals. The first five are the plan's, with its line from 1; of two faulty
+ * lines the first decides, and within a line the order is 1, 3, 2, 4, 5. The
+ * others are the caller's, with line 0. */
+enum salfunye_refusal {
+    SALFUNYE_ACCEPTED = 0,
+    SALFUNYE_MALFORMED = 1,       /* no line feed, unknown first field, wrong number of fields, a field not of its form */
+    SALFUNYE_OUT_OF_RANGE = 2,    /* a number out of its range, or a picked worker that there is not */
+    SALFUNYE_MISPLACED = 3,       /* W not first or again, T after an order line; an empty text */
+    SALFUNYE_TOO_MANY = 4,        /* a 129th task or a fifth access */
+    SALFUNYE_ADDRESS_TWICE = 5,   /* an address twice in one task */
+    SALFUNYE_TEXT_TOO_LONG = 6,   /* more than SALFUNYE_TEXT_SIZE bytes; tested first */
+    SALFUNYE_STORE_TOO_SHORT = 7, /* fewer than SALFUNYE_STORE_SIZE numbers; tested second */
+    SALFUNYE_OUTPUT_TOO_SHORT = 8 /* shorter than the report; tested last */
+};
+
+struct salfunye_checked {
+    uint64_t number; /* of enum salfunye_refusal */
+    uint64_t line;   /* 0 where the text is accepted or the refusal is not the plan's */
+};
+
+struct salfunye_ran {
+    uint64_t number; /* of enum salfunye_refusal; 0: there is a report */
+    uint64_t line;   /* as above */
+    uint64_t picks;  /* picks taken; 0 in a refusal */
+    uint64_t length; /* bytes of the report; 0 in a refusal */
+};
+
+/*
+ * Checks a plan text of text_length bytes: 0, 1 to 6, with the line.
+ */
+struct salfunye_checked salfunye_check(const uint8_t *text, size_t text_length);
+
+/*
+ * Runs a plan text: takes picks until the limit, the end of the order or the
+ * end of the run, and writes the report into the first bytes of the output.
+ *
+ *   limit   picks that are taken at most; UINT64_MAX for no limit
+ *   store   working room of store_length numbers. What it held has no effect.
+ *           After 6 or 7 it is untouched; otherwise its first
+ *           SALFUNYE_STORE_SIZE numbers are 0 and later ones as they were
+ *   output  output_length bytes. SALFUNYE_REPORT_SIZE is enough for any plan.
+ *           A refusal writes no byte of it; past the report it is as it was
+ */
+struct salfunye_ran salfunye_run(const uint8_t *text, size_t text_length, uint64_t limit,
+                                 uint64_t *store, size_t store_length,
+                                 uint8_t *output, size_t output_length);
+
+/* ---- The lock ----
+ *
+ * A delegation ticket lock over arrays of the caller: wait slots and
+ * registrations, at least `slots` numbers each, and two result cells, ticket
+ * and task, for each worker. `head` is the next ticket to give, `tail` the next
+ * one to let in. A ring needs at least as many slots as workers.
+ *
+ * A function refuses what it has no room for or what would pass 2^64 - 1, and
+ * changes nothing then: `ok` is 0, `kind` is 0, or the answer is false.
+ */
+
+struct salfunye_lock_ends {
+    uint64_t ok;
+    uint64_t head;
+    uint64_t tail;
+};
+
+struct salfunye_lock_taken {
+    uint64_t ok;
+    uint64_t ticket;
+    uint64_t head;
+    uint64_t tail;
+};
+
+struct salfunye_lock_answer {
+    uint64_t kind;
+    uint64_t value;
+};
+
+/* Starts a lock: head `slots`, tail one more, wait slots `slots`, all else 0. */
+struct salfunye_lock_ends salfunye_lock_start(uint64_t slots,
+                                              uint64_t *wait, size_t wait_length,
+                                              uint64_t *registrations, size_t registrations_length,
+                                              uint64_t *cell_tickets, size_t cell_tickets_length,
+                                              uint64_t *cell_tasks, size_t cell_tasks_length);
+
+/* Takes the ticket `head` and raises the head. */
+struct salfunye_lock_taken salfunye_lock_take_ticket(uint64_t head, uint64_t tail);
+
+/* Writes ticket + worker at slot ticket mod slots. */
+bool salfunye_lock_register(uint64_t slots, uint64_t *registrations, size_t registrations_length,
+                            uint64_t ticket, uint64_t worker);
+
+/* Kind 1: not its turn yet. 2: it receives the task `value`. 3: it owns the lock. */
+struct salfunye_lock_answer salfunye_lock_look(uint64_t slots,
+                                               const uint64_t *wait, size_t wait_length,
+                                               const uint64_t *cell_tickets, size_t cell_tickets_length,
+                                               const uint64_t *cell_tasks, size_t cell_tasks_length,
+                                               uint64_t ticket, uint64_t worker);
+
+/* Lets the ticket `tail` in and raises the tail. */
+struct salfunye_lock_ends salfunye_lock_hand_over(uint64_t slots, uint64_t head, uint64_t tail,
+                                                  uint64_t *wait, size_t wait_length);
+
+/* Kind 1: no registered front waiter. 2: the worker `value`. */
+struct salfunye_lock_answer salfunye_lock_front_waiter(uint64_t slots, uint64_t head, uint64_t tail,
+                                                       const uint64_t *registrations, size_t registrations_length);
+
+/* Whether nobody holds or awaits the lock: tail = head + 1. */
+bool salfunye_lock_is_free(uint64_t head, uint64_t tail);
+
+/* Puts a task, and the tail as its ticket, into a worker's result cell. */
+bool salfunye_lock_fill(uint64_t head, uint64_t tail,
+                        uint64_t *cell_tickets, size_t cell_tickets_length,
+                        uint64_t *cell_tasks, size_t cell_tasks_length,
+                        uint64_t worker, uint64_t task);
+
+#ifdef __cplusplus
+}
+#endif
+
+#endif
