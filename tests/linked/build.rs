@@ -3,7 +3,7 @@
 
 use std::{env, path::Path, process::exit};
 
-const LIBRARIES: &[&str] = &["lock_c", "plan_c"];
+const LIBRARIES: &[&str] = &["lock_c", "bench_c"];
 
 fn main() {
     let package = env::var("CARGO_MANIFEST_DIR").expect("cargo sets it");

@@ -90,15 +90,33 @@ pub mod lock_c {
     }
 }
 
-/// `crates/plan_c/src/lib.rt`.
-pub mod plan_c {
+/// `crates/bench_c/src/lib.rt`.
+pub mod bench_c {
     #[repr(C)]
     pub struct CheckedC {
         pub number: u64,
         pub line: u64,
     }
 
+    #[repr(C)]
+    pub struct RanC {
+        pub number: u64,
+        pub line: u64,
+        pub picks: u64,
+        pub length: u64,
+    }
+
     extern "C" {
         pub fn salfunye_check(text: *const u8, text_length: usize) -> CheckedC;
+
+        pub fn salfunye_run(
+            text: *const u8,
+            text_length: usize,
+            limit: u64,
+            store: *mut u64,
+            store_length: usize,
+            output: *mut u8,
+            output_length: usize,
+        ) -> RanC;
     }
 }

@@ -1,6 +1,9 @@
-//! The proved functions as Rust sees them: safe wrappers, a module for each
-//! static library of `build.rs`.
+//! The proved functions as Rust sees them: safe wrappers (`lock`, `bench`), and
+//! comparisons with the second implementation (`check`, `many`).
 
+pub mod bench;
+pub mod check;
 mod declared;
+pub mod fence;
 pub mod lock;
-pub mod plan;
+pub mod many;

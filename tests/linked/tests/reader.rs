@@ -1,6 +1,7 @@
 //! The proved reader beside the second implementation's.
 
-use linked::plan::{check, compare};
+use linked::bench::check;
+use linked::check::compare;
 use second::plan::check as second_check;
 
 fn same(text: &[u8]) {

@@ -13,7 +13,7 @@ fn main() {
         eprintln!("usage: check_many COUNT SEED");
         exit(2);
     };
-    match linked::plan::compare(count, seed) {
+    match linked::check::compare(count, seed) {
         Ok(counts) => {
             println!("{count} texts from seed {seed}, no difference");
             println!("accepted and refused with 1 to 6: {counts:?}");

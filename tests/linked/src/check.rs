@@ -1,24 +1,7 @@
-//! The reader's checking function, and texts to try it on.
+//! The proved reader beside the second implementation's, on random texts.
 
-use crate::declared::plan_c::salfunye_check;
-use second::plan::Refusal;
+use crate::bench::check;
 use second::random::{damaged, plan, Rng, Shape};
-
-/// Any text; a refusal has its number and line.
-pub fn check(text: &[u8]) -> Result<(), Refusal> {
-    let answer = unsafe { salfunye_check(text.as_ptr(), text.len()) };
-    match u8::try_from(answer.number) {
-        Ok(0) => {
-            assert_eq!(answer.line, 0, "an accepted text has no line");
-            Ok(())
-        }
-        Ok(number) => Err(Refusal {
-            number,
-            line: answer.line,
-        }),
-        Err(_) => panic!("{} is no refusal", answer.number),
-    }
-}
 
 /// A random text: mostly a damaged one, else a plan, now and then one of 65,536 bytes.
 pub fn random_text(rng: &mut Rng) -> Vec<u8> {

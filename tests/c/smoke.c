@@ -1,0 +1,140 @@
+/*
+ * A C caller of the bench and of the lock, by the header alone: the paper's
+ * listing, refusals, what is left in store and output, and one turn of the lock.
+ * Buffers are taken from the heap in their exact sizes, so that a memory checker
+ * sees a step past their ends.
+ */
+#include "salfunye.h"
+
+#include <stdio.h>
+#include <stdlib.h>
+#include <string.h>
+
+static int failures = 0;
+
+#define EXPECT(fact)                                                       \
+    do {                                                                   \
+        if (!(fact)) {                                                     \
+            failures++;                                                    \
+            fprintf(stderr, "%s:%d: not so: %s\n", __FILE__, __LINE__, #fact); \
+        }                                                                  \
+    } while (0)
+
+static const char listing[] = "W\t2\nT\ta\t0\nP\t1\t3\nP\t0\t5\nP\t1\t4\nP\t0\t2\n";
+static const char report[] = "E\tfinished\t14\nT\t0\ta\tover\t0\t13\t14\nL\t66\t66\t1\n";
+
+static void *taken(size_t size) {
+    void *room = malloc(size > 0 ? size : 1);
+    if (room == NULL) {
+        fputs("no memory\n", stderr);
+        exit(2);
+    }
+    return room;
+}
+
+/* Runs a text on used buffers of these lengths, and looks at all that is left. */
+static struct salfunye_ran run(const char *text, size_t size, uint64_t limit, size_t store_length, size_t output_length,
+                               const char *expected) {
+    uint8_t *plan = taken(size);
+    uint64_t *store = taken(store_length * sizeof *store);
+    uint8_t *output = taken(output_length);
+    memcpy(plan, text, size);
+    for (size_t i = 0; i < store_length; i++) store[i] = ~(uint64_t)i;
+    memset(output, '#', output_length);
+
+    struct salfunye_ran ran = salfunye_run(plan, size, limit, store, store_length, output, output_length);
+
+    bool untouched = ran.number == SALFUNYE_TEXT_TOO_LONG || ran.number == SALFUNYE_STORE_TOO_SHORT;
+    size_t cleared = untouched ? 0 : SALFUNYE_STORE_SIZE;
+    for (size_t i = 0; i < store_length; i++) EXPECT(store[i] == (i < cleared ? 0 : ~(uint64_t)i));
+    size_t length = expected == NULL ? 0 : strlen(expected);
+    EXPECT(ran.length == length);
+    EXPECT(length <= output_length && memcmp(output, expected == NULL ? "" : expected, length) == 0);
+    for (size_t i = length; i < output_length; i++) EXPECT(output[i] == '#');
+    free(output);
+    free(store);
+    free(plan);
+    return ran;
+}
+
+static void bench(void) {
+    size_t size = strlen(listing), length = strlen(report);
+    struct salfunye_checked checked = salfunye_check((const uint8_t *)listing, size);
+    EXPECT(checked.number == SALFUNYE_ACCEPTED && checked.line == 0);
+    checked = salfunye_check((const uint8_t *)"W\t1\nT\ta\t0\tr5\tr5\n", 17);
+    EXPECT(checked.number == SALFUNYE_ADDRESS_TWICE && checked.line == 2);
+    checked = salfunye_check((const uint8_t *)"", 0);
+    EXPECT(checked.number == SALFUNYE_MISPLACED && checked.line == 1);
+
+    struct salfunye_ran ran = run(listing, size, UINT64_MAX, SALFUNYE_STORE_SIZE, length, report);
+    EXPECT(ran.number == 0 && ran.line == 0 && ran.picks == 14);
+    ran = run(listing, size, 14, SALFUNYE_STORE_SIZE + 9, SALFUNYE_REPORT_SIZE, report);
+    EXPECT(ran.number == 0 && ran.picks == 14);
+    ran = run(listing, size, 3, SALFUNYE_STORE_SIZE, 100, "E\topen\t3\nT\t0\ta\tnew\t-\t-\t-\nL\t65\t65\t1\n");
+    EXPECT(ran.number == 0 && ran.picks == 3);
+    ran = run(listing, size, UINT64_MAX, SALFUNYE_STORE_SIZE, length - 1, NULL);
+    EXPECT(ran.number == SALFUNYE_OUTPUT_TOO_SHORT && ran.line == 0 && ran.picks == 0);
+    ran = run(listing, size, UINT64_MAX, SALFUNYE_STORE_SIZE - 1, length, NULL);
+    EXPECT(ran.number == SALFUNYE_STORE_TOO_SHORT && ran.line == 0);
+    ran = run(listing, size - 1, UINT64_MAX, SALFUNYE_STORE_SIZE, length, NULL);
+    EXPECT(ran.number == SALFUNYE_MALFORMED && ran.line == 6);
+
+    char *large = taken(SALFUNYE_TEXT_SIZE + 1);
+    memset(large, 'W', SALFUNYE_TEXT_SIZE + 1);
+    ran = run(large, SALFUNYE_TEXT_SIZE + 1, 0, 0, 0, NULL);
+    EXPECT(ran.number == SALFUNYE_TEXT_TOO_LONG && ran.line == 0);
+    ran = run(large, SALFUNYE_TEXT_SIZE, 0, SALFUNYE_STORE_SIZE, 0, NULL);
+    EXPECT(ran.number == SALFUNYE_MALFORMED && ran.line == 1);
+    free(large);
+}
+
+/* 32 workers, 128 tasks of four accesses: every array of a run is in use. */
+static void busy(void) {
+    char *text = taken(SALFUNYE_TEXT_SIZE);
+    size_t size = (size_t)sprintf(text, "W\t32\n");
+    for (unsigned i = 0; i < 128; i++)
+        size += (size_t)sprintf(text + size, "T\tabcdefghijklmnop\t%u\tr%u\tw%u\tr%u\tw%u\n", i % 40, i % 5, 10 + i % 7, 20 + i % 3, 30 + i % 11);
+    size += (size_t)sprintf(text + size, "P\t0\t900\nS\t18446744073709551615\t20000\nR\t100000\n");
+    uint64_t *store = taken(SALFUNYE_STORE_SIZE * sizeof *store);
+    uint8_t *output = taken(SALFUNYE_REPORT_SIZE);
+    memset(store, 0xff, SALFUNYE_STORE_SIZE * sizeof *store);
+    struct salfunye_ran ran = salfunye_run((const uint8_t *)text, size, UINT64_MAX, store, SALFUNYE_STORE_SIZE, output, SALFUNYE_REPORT_SIZE);
+    EXPECT(ran.number == 0 && ran.length <= SALFUNYE_REPORT_SIZE);
+    EXPECT(memcmp(output, "E\tfinished\t", 11) == 0);
+    free(output);
+    free(store);
+    free(text);
+}
+
+static void lock(void) {
+    enum { SLOTS = 4, WORKERS = 2 };
+    uint64_t wait[SLOTS], registrations[SLOTS], tickets[WORKERS], tasks[WORKERS];
+    struct salfunye_lock_ends ends = salfunye_lock_start(SLOTS, wait, SLOTS, registrations, SLOTS, tickets, WORKERS, tasks, WORKERS);
+    EXPECT(ends.ok == 1 && ends.head == SLOTS && ends.tail == SLOTS + 1);
+    EXPECT(salfunye_lock_is_free(ends.head, ends.tail));
+    struct salfunye_lock_taken one = salfunye_lock_take_ticket(ends.head, ends.tail);
+    EXPECT(one.ok == 1 && one.ticket == SLOTS);
+    EXPECT(salfunye_lock_register(SLOTS, registrations, SLOTS, one.ticket, 0));
+    struct salfunye_lock_answer look = salfunye_lock_look(SLOTS, wait, SLOTS, tickets, WORKERS, tasks, WORKERS, one.ticket, 0);
+    EXPECT(look.kind == 3);
+    struct salfunye_lock_taken two = salfunye_lock_take_ticket(one.head, one.tail);
+    EXPECT(salfunye_lock_register(SLOTS, registrations, SLOTS, two.ticket, 1));
+    look = salfunye_lock_look(SLOTS, wait, SLOTS, tickets, WORKERS, tasks, WORKERS, two.ticket, 1);
+    EXPECT(look.kind == 1);
+    struct salfunye_lock_answer front = salfunye_lock_front_waiter(SLOTS, two.head, two.tail, registrations, SLOTS);
+    EXPECT(front.kind == 2 && front.value == 1);
+    EXPECT(salfunye_lock_fill(two.head, two.tail, tickets, WORKERS, tasks, WORKERS, 1, 77));
+    ends = salfunye_lock_hand_over(SLOTS, two.head, two.tail, wait, SLOTS);
+    EXPECT(ends.ok == 1 && ends.tail == two.tail + 1);
+    look = salfunye_lock_look(SLOTS, wait, SLOTS, tickets, WORKERS, tasks, WORKERS, two.ticket, 1);
+    EXPECT(look.kind == 2 && look.value == 77);
+    EXPECT(!salfunye_lock_register(SLOTS, registrations, SLOTS - 1, one.ticket, 0));
+}
+
+int main(void) {
+    bench();
+    busy();
+    lock();
+    if (failures == 0) puts("ok");
+    return failures == 0 ? 0 : 1;
+}

@@ -1,0 +1,32 @@
+//! run_many COUNT SEED: holds the proved run to the second implementation's on
+//! COUNT random and damaged plans, with random limits, stores and outputs.
+
+use std::io::Write;
+use std::process::exit;
+
+fn main() {
+    let words: Vec<u64> = std::env::args()
+        .skip(1)
+        .filter_map(|w| w.parse().ok())
+        .collect();
+    let [count, seed] = words[..] else {
+        eprintln!("usage: run_many COUNT SEED");
+        exit(2);
+    };
+    match linked::many::compare_many(count, seed) {
+        Ok((counts, picks)) => {
+            println!("{count} runs from seed {seed}, {picks} picks, no difference");
+            println!("reports and refusals 1 to 8: {counts:?}");
+        }
+        Err((call, what)) => {
+            eprintln!(
+                "the two runs differ in: {what}\nlimit {}, store {}, output {}, on this plan:",
+                call.limit,
+                call.store.len(),
+                call.output.len()
+            );
+            let _ = std::io::stdout().write_all(&call.text);
+            exit(1);
+        }
+    }
+}

@@ -1,0 +1,206 @@
+//! run_speed [PART]: nanoseconds per pick of the proved run beside the second
+//! implementation's, on the same plans, in one run. A time holds the whole call:
+//! reading, clearing the store and the report too. Only lines whose name has PART
+//! in it are measured, if one is given.
+
+use second::plan::Refusal;
+use second::run::{Reported, STORE_SIZE};
+use std::hint::black_box;
+use std::time::Instant;
+
+const REPETITIONS: usize = 15;
+/// Picks that one measured time holds at least, by calling again.
+const PICKS: u64 = 400_000;
+
+type Run = fn(&[u8], u64, &mut [u64], &mut [u8]) -> Result<Reported, Refusal>;
+
+struct Case {
+    name: String,
+    text: Vec<u8>,
+    store: usize,
+}
+
+/// A plan of these tasks, with each order line as often as it says.
+fn plan(workers: u64, tasks: &[String], orders: &[(String, usize)]) -> Vec<u8> {
+    let mut text = format!("W\t{workers}\n");
+    for task in tasks {
+        text.push_str(task);
+    }
+    for (line, times) in orders {
+        text.push_str(&line.repeat(*times));
+    }
+    text.into_bytes()
+}
+
+/// Tasks that each write the one address, so that they run one after the other.
+fn chain(count: usize, cost: u64) -> Vec<String> {
+    vec![format!("T\tchain\t{cost}\tw7\n"); count]
+}
+
+/// Tasks with four accesses over a few addresses, two of them writing.
+fn tangle(count: usize, cost: u64) -> Vec<String> {
+    (0..count)
+        .map(|i| {
+            let address = |k: usize| (i * 3 + k * 5) % 13;
+            format!(
+                "T\ttangle\t{cost}\tr{}\tw{}\tr{}\tw{}\n",
+                address(0),
+                address(1) + 13,
+                address(2) + 26,
+                address(3) + 39
+            )
+        })
+        .collect()
+}
+
+fn rounds() -> Vec<(String, usize)> {
+    vec![("R\t1000000\n".to_string(), 4)]
+}
+
+fn seeded() -> Vec<(String, usize)> {
+    vec![("S\t2026\t1000000\n".to_string(), 5)]
+}
+
+fn alone(worker: u64, times: usize) -> Vec<(String, usize)> {
+    vec![(format!("P\t{worker}\t4096\n"), times)]
+}
+
+fn cases() -> Vec<Case> {
+    let mut cases = Vec::new();
+    let mut add = |name: String, text: Vec<u8>, store: usize| {
+        cases.push(Case { name, text, store });
+    };
+    for w in [1, 4, 32] {
+        let tasks = chain(128, 1_000);
+        add(
+            format!("rounds, W {w}"),
+            plan(w, &tasks, &rounds()),
+            STORE_SIZE,
+        );
+        add(
+            format!("seeded, W {w}"),
+            plan(w, &tasks, &seeded()),
+            STORE_SIZE,
+        );
+        add(
+            format!("worker 0 alone, W {w}"),
+            plan(w, &tasks, &alone(0, 60)),
+            STORE_SIZE,
+        );
+    }
+    for w in [4, 32] {
+        // worker 0 opens nothing, so worker 1 goes through the lock without end
+        add(
+            format!("worker 1 alone, W {w}"),
+            plan(w, &chain(128, 0), &alone(1, 250)),
+            STORE_SIZE,
+        );
+    }
+    for w in [1, 4, 32] {
+        for cost in [0, 20] {
+            add(
+                format!("128 tasks of 4 accesses, cost {cost}, rounds, W {w}"),
+                plan(w, &tangle(128, cost), &rounds()),
+                STORE_SIZE,
+            );
+        }
+        add(
+            format!("128 tasks of 4 accesses, cost 0, seeded, W {w}"),
+            plan(w, &tangle(128, 0), &seeded()),
+            STORE_SIZE,
+        );
+    }
+    // an order line for each pick, as many as a text has room for
+    for (line, times) in [
+        ("R\t1\n", 15_000),
+        ("P\t0\t1\n", 10_000),
+        ("S\t18446744073709551615\t1\n", 2_400),
+    ] {
+        add(
+            format!("a line for each pick, {}", line.trim().replace('\t', " ")),
+            plan(1, &chain(128, 1_000), &[(line.to_string(), times)]),
+            STORE_SIZE,
+        );
+    }
+    // the cost of a pick beside the number of tasks, and beside the store's length
+    for count in [1, 8, 128] {
+        add(
+            format!("{count} tasks, worker 3 alone, W 4"),
+            plan(4, &chain(count, 0), &alone(3, 250)),
+            STORE_SIZE,
+        );
+    }
+    for store in [STORE_SIZE, 1_000_000] {
+        add(
+            format!("store of {store}, rounds, W 4"),
+            plan(4, &chain(128, 1_000), &rounds()),
+            store,
+        );
+    }
+    cases
+}
+
+/// Seconds of so many calls, and the picks of each.
+fn timed(run: Run, case: &Case, calls: u64, store: &mut [u64], output: &mut [u8]) -> (f64, u64) {
+    let mut picks = 0;
+    let start = Instant::now();
+    for _ in 0..calls {
+        let answer = black_box(run(black_box(&case.text), u64::MAX, store, output));
+        picks = answer.expect("a report").picks;
+    }
+    (start.elapsed().as_secs_f64(), picks)
+}
+
+/// The best and the median of some times.
+fn summary(mut times: Vec<f64>) -> (f64, f64) {
+    times.sort_by(f64::total_cmp);
+    (times[0], times[times.len() / 2])
+}
+
+fn measure(case: &Case) {
+    let mut store = vec![0; case.store];
+    let mut output = vec![0; 16_384];
+    let proved: Run = linked::bench::run;
+    let second: Run = second::run::run;
+    let (_, picks) = timed(proved, case, 1, &mut store, &mut output);
+    let calls = PICKS.div_ceil(picks);
+    let scale = 1e9 / (picks * calls) as f64;
+    let (mut ours, mut theirs) = (Vec::new(), Vec::new());
+    // in turn, so that what else the machine does counts for both
+    for _ in 0..REPETITIONS {
+        let (time, taken) = timed(proved, case, calls, &mut store, &mut output);
+        ours.push(time * scale);
+        let (time, expected) = timed(second, case, calls, &mut store, &mut output);
+        theirs.push(time * scale);
+        assert_eq!(taken, expected, "{}", case.name);
+    }
+    let ((best, median), (second_best, second_median)) = (summary(ours), summary(theirs));
+    println!(
+        "{:46} {:9} {:7.2} {:7.2} {:7.2} {:7.2} {:6.2} {:6.2}",
+        case.name,
+        picks,
+        best,
+        median,
+        second_best,
+        second_median,
+        best / second_best,
+        median / second_median
+    );
+}
+
+fn main() {
+    let part = std::env::args().nth(1).unwrap_or_default();
+    println!(
+        "{:46} {:>9} {:>15} {:>15} {:>13}",
+        "nanoseconds per pick", "picks", "proved", "second", "ratio"
+    );
+    println!(
+        "{:56} {:>7} {:>7} {:>7} {:>7} {:>6} {:>6}",
+        "", "best", "median", "best", "median", "best", "median"
+    );
+    for case in cases() {
+        if case.name.contains(&part) {
+            measure(&case);
+        }
+    }
+}

@@ -1,0 +1,157 @@
+//! The proved run beside the second implementation's: the same answer, the same
+//! store and the same output, and nothing changed around them.
+
+use crate::bench::run;
+use crate::fence::Fenced;
+use second::plan::Refusal;
+use second::random::{damaged, plan, Rng, Shape};
+use second::run::{run as second_run, Reported, STORE_SIZE};
+
+/// Where no limit is drawn a run still ends here at the latest.
+const LONG: u64 = 100_000;
+/// Longer than any report of a plan.
+const OUTPUT: usize = 16_384;
+
+/// The arguments of a run: store and output with their content.
+#[derive(Clone, Debug)]
+pub struct Call {
+    pub text: Vec<u8>,
+    pub limit: u64,
+    pub store: Vec<u64>,
+    pub output: Vec<u8>,
+}
+
+/// How a call was answered, or what differs.
+pub fn compare(call: &Call) -> Result<Result<Reported, Refusal>, String> {
+    let mut store = Fenced::new(&call.store, |place| !(place as u64) << 7);
+    let mut output = Fenced::new(&call.output, |place| place as u8 ^ 0xa5);
+    let answer = run(&call.text, call.limit, store.lend(), output.lend());
+
+    let mut second = call.clone();
+    let expected = second_run(
+        &second.text,
+        second.limit,
+        &mut second.store,
+        &mut second.output,
+    );
+    if answer != expected {
+        return Err(format!("answer {answer:?}, expected {expected:?}"));
+    }
+    if let Some(place) = difference(store.inside(), &second.store) {
+        return Err(format!("number {place} of the store"));
+    }
+    if let Some(place) = difference(output.inside(), &second.output) {
+        return Err(format!("byte {place} of the output"));
+    }
+    if !store.stands() {
+        return Err("what stands around the store".to_string());
+    }
+    if !output.stands() {
+        return Err("what stands around the output".to_string());
+    }
+    Ok(answer)
+}
+
+fn difference<T: PartialEq>(one: &[T], other: &[T]) -> Option<usize> {
+    one.iter().zip(other).position(|(a, b)| a != b)
+}
+
+/// So many numbers as an earlier use may have left.
+pub fn used_store(length: usize, word: u64) -> Vec<u64> {
+    (0..length as u64)
+        .map(|place| word.rotate_left(place as u32).wrapping_add(place))
+        .collect()
+}
+
+pub fn used_output(length: usize, byte: u8) -> Vec<u8> {
+    (0..length).map(|place| byte ^ place as u8).collect()
+}
+
+fn random_text(rng: &mut Rng) -> Vec<u8> {
+    match rng.below(200) {
+        0 => plan(rng, Shape::Full),
+        1..=3 => plan(rng, Shape::Large),
+        4..=29 => plan(rng, Shape::Medium),
+        30..=139 => plan(rng, Shape::Small),
+        _ => damaged(rng),
+    }
+}
+
+/// What the second implementation reports with a limit and all the room it needs.
+fn tried(text: &[u8], limit: u64) -> Option<Reported> {
+    let (mut store, mut output) = ([0; STORE_SIZE], [0; OUTPUT]);
+    second_run(text, limit, &mut store, &mut output).ok()
+}
+
+fn random_limit(rng: &mut Rng, text: &[u8]) -> u64 {
+    match rng.below(16) {
+        0 => 0,
+        1 => 1,
+        2..=4 => rng.below(60),
+        5..=7 => rng.below(2_000),
+        8 => tried(text, LONG).map_or(7, |all| all.picks),
+        9 => tried(text, LONG).map_or(7, |all| all.picks.saturating_sub(rng.below(3))),
+        // few order lines are so long that this takes long
+        10 if text.len() < 1_000 => u64::MAX,
+        _ => LONG,
+    }
+}
+
+fn random_store_size(rng: &mut Rng) -> usize {
+    match rng.below(24) {
+        0 => 0,
+        1 => rng.index(STORE_SIZE),
+        2 => STORE_SIZE - 1,
+        3..=4 => STORE_SIZE + 1,
+        5..=6 => STORE_SIZE + rng.index(900),
+        _ => STORE_SIZE,
+    }
+}
+
+fn random_output_size(rng: &mut Rng, text: &[u8], limit: u64) -> usize {
+    let exact = |rng: &mut Rng, less: usize, more: usize| {
+        let length = tried(text, limit).map_or(20, |all| all.length);
+        length.saturating_sub(less) + rng.index(more + 1)
+    };
+    match rng.below(16) {
+        0 => 0,
+        1 => rng.index(100),
+        2 => exact(rng, 1, 0),
+        3 => exact(rng, 0, 0),
+        4 => exact(rng, 2, 4),
+        5 => exact(rng, 0, 300),
+        _ => 12_000 + rng.index(400),
+    }
+}
+
+pub fn random_call(rng: &mut Rng) -> Call {
+    let text = random_text(rng);
+    let limit = random_limit(rng, &text);
+    let store = used_store(random_store_size(rng), rng.word());
+    let output = used_output(random_output_size(rng, &text, limit), rng.byte());
+    Call {
+        text,
+        limit,
+        store,
+        output,
+    }
+}
+
+/// Compares so many random calls, and counts the answers: reports first, then by
+/// refusal number. Also all picks taken.
+pub fn compare_many(calls: u64, seed: u64) -> Result<([u64; 9], u64), (Box<Call>, String)> {
+    let mut rng = Rng::new(seed);
+    let (mut counts, mut picks) = ([0; 9], 0);
+    for _ in 0..calls {
+        let call = random_call(&mut rng);
+        match compare(&call) {
+            Ok(Ok(reported)) => {
+                counts[0] += 1;
+                picks += reported.picks;
+            }
+            Ok(Err(refusal)) => counts[usize::from(refusal.number)] += 1,
+            Err(what) => return Err((Box::new(call), what)),
+        }
+    }
+    Ok((counts, picks))
+}

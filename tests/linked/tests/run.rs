@@ -1,0 +1,228 @@
+//! The proved run: the paper's examples, and what it leaves in store and output,
+//! each held to the second implementation and to the paper's own words.
+
+use linked::bench::{check, run};
+use linked::many::{compare, compare_many, used_output, used_store, Call};
+use second::plan::Refusal;
+use second::run::{answer_bytes, Reported};
+use second::text::lines;
+
+const STORE: usize = 8_192;
+const LISTING: [&str; 6] = ["W 2", "T a 0", "P 1 3", "P 0 5", "P 1 4", "P 0 2"];
+const LISTING_REPORT: &str = "E finished 14\nT 0 a over 0 13 14\nL 66 66 1\n";
+
+/// Calls with used buffers, compares all, and gives the answer.
+fn compared(
+    text: &[u8],
+    limit: u64,
+    store: usize,
+    output: usize,
+    used: u64,
+) -> Result<Reported, Refusal> {
+    let call = Call {
+        text: text.to_vec(),
+        limit,
+        store: used_store(store, used),
+        output: used_output(output, used as u8),
+    };
+    compare(&call).unwrap_or_else(|what| {
+        panic!(
+            "{what}: limit {limit}, store {store}, output {output}, {:?}",
+            String::from_utf8_lossy(&text[..text.len().min(300)])
+        )
+    })
+}
+
+/// The report, with blanks for tabs, from a store and an output that were in use.
+fn shown(plan: &[&str]) -> String {
+    let text = lines(plan);
+    assert_eq!(check(&text), Ok(()));
+    compared(&text, u64::MAX, STORE, 12_000, 3).expect("a report");
+    let (mut store, mut output) = (used_store(STORE, 5), vec![b'#'; 12_000]);
+    let reported = run(&text, u64::MAX, &mut store, &mut output).expect("a report");
+    assert!(store.iter().all(|&number| number == 0));
+    assert!(output[reported.length..].iter().all(|&byte| byte == b'#'));
+    let report = String::from_utf8(output[..reported.length].to_vec()).expect("ASCII");
+    report.replace('\t', " ")
+}
+
+fn refused(text: &[u8]) -> (u8, u64) {
+    let answer = compared(text, u64::MAX, STORE, 12_000, 9).expect_err("a refusal");
+    assert_eq!(check(text), Err(answer));
+    (answer.number, answer.line)
+}
+
+mod examples {
+    use super::*;
+
+    #[test]
+    fn refusals() {
+        assert_eq!(refused(b""), (3, 1));
+        assert_eq!(refused(b"W\t0\n"), (2, 1));
+        assert_eq!(refused(b"W\t33\n"), (2, 1));
+        assert_eq!(refused(&lines(&["W 1", "T a 0 r5 r5"])), (5, 2));
+        assert_eq!(refused(&lines(&["W 1", "T a 0 r1 r2 r3 r4 r1"])), (4, 2));
+    }
+
+    #[test]
+    fn reports() {
+        assert_eq!(shown(&["W 32"]), "E finished 0\nL 64 65 -\n");
+        assert_eq!(shown(&["W 1"]), "E finished 0\nL 64 65 -\n");
+        let new = "E open 0\nT 0 a new - - -\nL 64 65 -\n";
+        assert_eq!(shown(&["W 1", "T a 0"]), new);
+        let ten = "E finished 10\nT 0 a over 0 8 10\nL 65 66 -\n";
+        assert_eq!(shown(&["W 1", "T a 0", "R 20"]), ten);
+        assert_eq!(shown(&LISTING), LISTING_REPORT);
+        let owner = "E open 3\nT 0 a new - - -\nL 65 65 1\n";
+        assert_eq!(shown(&["W 2", "T a 0", "P 1 3"]), owner);
+        let left = "E open 7\nT 0 a new - - -\nL 65 66 -\n";
+        assert_eq!(shown(&["W 2", "T a 0", "P 1 7"]), left);
+    }
+
+    /// The first pick from seed 0 with four workers: worker 2 has the ticket, and
+    /// owns the lock after two picks more.
+    #[test]
+    fn seeded_pick() {
+        let owner = "E open 3\nT 0 a new - - -\nL 65 65 2\n";
+        assert_eq!(shown(&["W 4", "T a 0", "S 0 1", "P 2 2"]), owner);
+    }
+
+    /// The flags are not in the report; that the chain finishes is.
+    #[test]
+    fn chain() {
+        let report = shown(&["W 1", "T a 0 w5", "T b 0 r5", "R 60"]);
+        assert!(report.starts_with("E finished "), "{report}");
+    }
+}
+
+mod buffers {
+    use super::*;
+
+    #[test]
+    fn store_lengths() {
+        for size in [0, 1, 8_191, 8_192, 8_193, 9_000] {
+            for used in [0, 1, u64::MAX, 0xdead_beef_0bad_cafe] {
+                for text in [lines(&LISTING), Vec::new(), lines(&["W 1", "X"])] {
+                    let answer = compared(&text, u64::MAX, size, 100, used);
+                    let short = matches!(answer, Err(Refusal { number: 7, line: 0 }));
+                    assert_eq!(short, size < STORE, "{size}: {answer:?}");
+                }
+            }
+        }
+    }
+
+    #[test]
+    fn output_lengths() {
+        let text = lines(&LISTING);
+        for size in 0..=LISTING_REPORT.len() + 40 {
+            let answer = compared(&text, u64::MAX, STORE, size, 77);
+            if size < LISTING_REPORT.len() {
+                assert_eq!(answer, Err(Refusal { number: 8, line: 0 }));
+            } else {
+                let expected = Reported {
+                    picks: 14,
+                    length: LISTING_REPORT.len(),
+                };
+                assert_eq!(answer, Ok(expected));
+            }
+        }
+    }
+
+    #[test]
+    fn limits() {
+        let text = lines(&LISTING);
+        for limit in (0..=20).chain([1 << 32, u64::MAX - 1, u64::MAX]) {
+            for store in [STORE - 1, STORE, STORE + 1] {
+                let answer = compared(&text, limit, store, 60, limit);
+                if store >= STORE {
+                    assert_eq!(answer.map(|reported| reported.picks), Ok(limit.min(14)));
+                }
+            }
+            let exact = answer_bytes(&text, limit).len();
+            assert!(compared(&text, limit, STORE, exact, 1).is_ok());
+            assert!(compared(&text, limit, STORE, exact - 1, 1).is_err());
+        }
+    }
+
+    #[test]
+    fn every_limit_of_a_busy_plan() {
+        let text = lines(&[
+            "W 3",
+            "T a 2 w5",
+            "T b 1 r5",
+            "T c 0 r5 w7",
+            "T d 3 w5 r7",
+            "T e 0",
+            "T f 0",
+            "T g 0",
+            "T h 0",
+            "T i 0",
+            "T j 0",
+            "T k 0",
+            "T l 0",
+            "T m 0",
+            "P 0 40",
+            "S 4 300",
+            "R 100",
+        ]);
+        let all = compared(&text, u64::MAX, STORE, 1_000, 0).expect("a report");
+        for limit in 0..=all.picks + 1 {
+            let answer = compared(&text, limit, STORE, 1_000, limit).expect("a report");
+            assert_eq!(answer.picks, limit.min(all.picks));
+        }
+    }
+
+    /// 6 before 7, both before the plan's own, those before 8.
+    #[test]
+    fn order_of_refusals() {
+        let number = |text: &[u8], store, output| {
+            let answer = compared(text, 5, store, output, 1);
+            answer.map_or_else(|no| (no.number, no.line), |_| (0, 0))
+        };
+        let long = vec![b'W'; 65_537];
+        assert_eq!(number(&long, 0, 0), (6, 0));
+        assert_eq!(number(&long, STORE, 100), (6, 0));
+        assert_eq!(number(b"", STORE - 1, 0), (7, 0));
+        assert_eq!(number(b"", STORE, 0), (3, 1));
+        assert_eq!(number(b"W\t1\n", STORE, 0), (8, 0));
+        assert_eq!(number(b"W\t1\n", STORE, 100), (0, 0));
+    }
+
+    /// A store that a run left serves the next one.
+    #[test]
+    fn one_store_for_many_runs() {
+        let mut store = vec![0; STORE + 5];
+        for plan in plans() {
+            let (mut output, mut expected) = (vec![0; 12_000], vec![0; 12_000]);
+            let answer = run(&plan, u64::MAX, &mut store, &mut output);
+            let second = second::run::run(&plan, u64::MAX, &mut [0; STORE], &mut expected);
+            assert_eq!(answer, second);
+            assert_eq!(output, expected);
+        }
+        assert!(store.iter().all(|&number| number == 0));
+    }
+
+    fn plans() -> Vec<Vec<u8>> {
+        let rng = &mut second::random::Rng::new(12);
+        (0..300)
+            .map(|_| second::random::plan(rng, second::random::Shape::Small))
+            .collect()
+    }
+}
+
+#[test]
+fn random_calls() {
+    match compare_many(10_000, 2_026) {
+        Ok((counts, _)) => assert!(
+            counts.iter().all(|&n| n >= 100),
+            "each answer is met: {counts:?}"
+        ),
+        Err((call, what)) => panic!(
+            "{what}: limit {}, store {}, output {}, {:?}",
+            call.limit,
+            call.store.len(),
+            call.output.len(),
+            String::from_utf8_lossy(&call.text)
+        ),
+    }
+}
