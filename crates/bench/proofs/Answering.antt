@@ -1,20 +1,21 @@
 -- What the arrays say of a state, and the answer that they lead to.
-use Prim.Native.Nat.{ℕ, _+_, _*_, _≤_, _<_}
+use Prim.Native.Nat.{ℕ, _≤_, _<_}
 use native.Mathlib.Omega.{arith}
 use mathlib.Core.Path.{_≡_, sym, ap, _∙_}
 use mathlib.Core.List.{List, _++_}
-use lib.ListN.{length, getD, drop}
+use lib.ListN.{length, drop}
 use Rattle.plan.specs.declared.Refusal.the-variants.{OutputTooShort}
 use Rattle.machine.specs.State.{Setup, State}
 use Rattle.machine.specs.Step.{finished}
 use Rattle.machine.specs.Ranges.{Sized}
-use Rattle.scheduler.specs.declared.Counts.{Counts}
-use Rattle.scheduler.specs.Codes.{optionCode}
-use Rattle.scheduler.specs.Shares.{share}
-use Rattle.scheduler.specs.Labels.{Labels}
-use Rattle.scheduler.specs.Memory.{memory, Holds}
+use Rattle.machine.specs.Whereabouts.{owner}
+use Rattle.memory.specs.Layout as layout
+use Rattle.memory.specs.Codes.{optionCode}
+use Rattle.memory.specs.Labels.{Labels, labelAt}
+use Rattle.steps.specs.declared.Counts.{Counts}
+use Rattle.steps.specs.Memory.{share, Memory, withCounts, withTasks, Holds}
 use Rattle.report.specs.declared.Summary.{Summary}
-use Rattle.report.specs.Report.{owner, report}
+use Rattle.report.specs.Report.{report}
 use Rattle.report.specs.Shown.{Shown}
 use Rattle.bench.specs.declared.Answer.the-variants.{Reports, Refuses}
 use Rattle.bench.specs.Answer.{written}
@@ -23,19 +24,19 @@ use Rattle.bench.specs.Written.{written-short, written-whole}
 -- what a summary says by the numbers of a run and by the store
 abbrev pub Summed : Counts → List ℕ → Summary → Type 0
 Summed n store r =
-    ((r .picks ≡ n .picks) × (r .head ≡ n .ends .head .0) × (r .tail ≡ n .ends .tail .0) × (r .tasks ≡ n .tasks))
-    × ((c : Setup) (s : State) (wait registrations tickets cells list tasks accesses : List ℕ)
-    → Holds c (memory n wait registrations tickets cells list tasks accesses) (share store) s → (r .finished ≡ finished c s) × (r .owner ≡ optionCode (owner c s)))
+    ((r .picks ≡ n .picks) × (r .head ≡ n .ends .head .0) × (r .tail ≡ n .ends .tail .0) × (r .tasks ≡ n .tally .tasks))
+    × ((m : Memory) (c : Setup) (s : State) → Holds c (withCounts m n) (share store) s
+    → (r .finished ≡ finished c s) × (r .owner ≡ optionCode (owner c s)))
 
 module _ (n : Counts) (store : List ℕ) (r : Summary) (summed : Summed n store r) where
-  module _ {c : Setup} {s : State} {wait registrations tickets cells list tasks accesses text places : List ℕ} (labels : Labels (c .tasks) text places)
-      (holds : Holds c (memory n wait registrations tickets cells list tasks accesses) (share store) s) where
+  module _ (m : Memory) (c : Setup) (s : State) (rows text places : List ℕ) (labels : Labels (c .tasks) text places)
+      (holds : Holds c (withTasks m n rows (m .accesses)) (share store) s) where
     tasks-counted : r .tasks ≡ length (c .tasks)
-    tasks-counted = summed .0 .3 ∙ holds .tasks
+    tasks-counted = summed .0 .3 ∙ holds .tasks .tasks
 
-    pub shown : Shown c s r tasks places text
+    pub shown : Shown c s r rows places text
     shown =
-        let (f, o) = summed .1 c s wait registrations tickets cells list tasks accesses holds in
+        let (f, o) = summed .1 (withTasks m n rows (m .accesses)) c s holds in
         record {
           finished = f;
           picks = summed .0 .0 ∙ holds .picks;
@@ -43,26 +44,29 @@ module _ (n : Counts) (store : List ℕ) (r : Summary) (summed : Summed n store 
           tail = summed .0 .2 ∙ ap (λ l. l .tail) (holds .lock);
           owner = o;
           count = tasks-counted;
-          rows = holds .task-rows;
+          rows = holds .tasks .task-rows;
           labels = labels;
         }
 
     -- what the report asks of the number of tasks and of their labels
-    pub few-tasks : Sized c → r .tasks ≤ 128
+    pub few-tasks : Sized c → r .tasks ≤ layout.mostTasks
     few-tasks sized = omega (arith, tasks-counted, sized .tasks)
 
-    pub short-labels : (i : ℕ) → i < r .tasks → getD places (2 * i + 1) 0 ≤ 16
-    short-labels i l = labels .short i (omega (arith, tasks-counted))
+    pub short-labels : (i : ℕ) → i < r .tasks → labelAt places i .size ≤ layout.mostLabel
+    short-labels i l = labels i (omega (arith, tasks-counted)) .short
 
     module _ (limit : ℕ) (left output : List ℕ) where
       pub too-short : length output < length (report c s)
-          → (Refuses OutputTooShort 0 ≡ (written limit left output (s .picks) (report c s)) .answer) × (output ≡ (written limit left output (s .picks) (report c s)) .output)
+          → (Refuses OutputTooShort 0 ≡ (written limit left output (s .picks) (report c s)) .answer)
+          × (output ≡ (written limit left output (s .picks) (report c s)) .output)
       too-short l =
           let e = sym (written-short limit left output (s .picks) (report c s) l) in
           (ap (λ o. o .answer) e, ap (λ o. o .output) e)
 
-      pub long-enough : (size : ℕ) (next : List ℕ) → length (report c s) ≤ length output → size ≡ length (report c s) → next ≡ report c s ++ drop (length (report c s)) output
-          → (Reports (n .picks) size ≡ (written limit left output (s .picks) (report c s)) .answer) × (next ≡ (written limit left output (s .picks) (report c s)) .output)
+      pub long-enough : (size : ℕ) (next : List ℕ) → length (report c s) ≤ length output → size ≡ length (report c s)
+          → next ≡ report c s ++ drop (length (report c s)) output
+          → (Reports (n .picks) size ≡ (written limit left output (s .picks) (report c s)) .answer)
+          × (next ≡ (written limit left output (s .picks) (report c s)) .output)
       long-enough size next l f g =
           let e = sym (written-whole limit left output (s .picks) (report c s) l) in
           (ap (λ k. Reports k size) (holds .picks) ∙ ap (Reports (s .picks)) f ∙ ap (λ o. o .answer) e, g ∙ ap (λ o. o .output) e)

@@ -9,22 +9,12 @@ use Rattle.plan.specs.declared.Refusal.the-variants.{TextTooLong, StoreTooShort
 use Rattle.plan.specs.Text.{bytes, decimal, line}
 use Rattle.plan.specs.Plan.{Plan}
 use Rattle.plan.specs.Reading.{Reading, accepted, refused, reading, number, isTooLong}
-use Rattle.plan.specs.Orders.{picksUpTo}
 use Rattle.reader.specs.declared.Checked.{Checked}
 use Rattle.reader.specs.Verdict.{verdict}
-use Rattle.machine.specs.State.{Setup, State}
-use Rattle.machine.specs.Step.{after}
+use Rattle.orders.specs.Reached.{setupOf, reached}
 use Rattle.report.specs.Report.{report}
 use Rattle.bench.specs.declared.Answer.{Answer}
 use Rattle.bench.specs.declared.Answer.the-variants.{Reports, Refuses}
-
--- a ring of 64 slots, queues of 8
-abbrev pub setupOf : Plan → Setup
-setupOf p = record { workers = p .workers; slots = 64; capacity = 8; tasks = p .tasks }
-
--- the state that a run of a plan reaches
-abbrev pub reached : Plan → ℕ → State
-reached p limit = after (setupOf p) (picksUpTo limit p)
 
 abbrev pub reportOf : Plan → ℕ → List ℕ
 reportOf p limit = report (setupOf p) (reached p limit)

@@ -7,9 +7,10 @@ use lib.ListN.{length}
 use Rattle.plan.specs.Text.{bytes}
 use Rattle.plan.specs.Reading.{Reading, accepted, refused, reading}
 use Rattle.plan.specs.Orders.{numbersFrom, picksUpTo}
-use Rattle.machine.specs.Accesses.{accesses}
-use Rattle.machine.specs.Flags.{flagNumber}
-use Rattle.bench.specs.Answer.{reached, printed}
+use Rattle.tasks.specs.Accesses.{accesses}
+use Rattle.tasks.specs.Flags.{flagNumber}
+use Rattle.orders.specs.Reached.{reached}
+use Rattle.bench.specs.Answer.{printed}
 use Rattle.bench.specs.Computed.{computed}
 
 -- a plan text, and what the paper says of it
@@ -23,7 +24,7 @@ pub data Example : Type 0 where
 
 -- the flags after the whole order, and the picks of the order; none for a text that is refused
 unfoldable pub flagsFor : Reading → List ℕ
-flagsFor (accepted p) = map (λ a. flagNumber (reached p (2 ^ 64 - 1) .flags a)) (numbersFrom 0 (length (accesses (p .tasks))))
+flagsFor (accepted p) = map (λ a. flagNumber (reached p (2 ^ 64 - 1) .tasks .flags a)) (numbersFrom 0 (length (accesses (p .tasks))))
 flagsFor (refused r n) = []
 
 unfoldable pub picksFor : Reading → List ℕ

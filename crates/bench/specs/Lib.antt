@@ -1,9 +1,5 @@
 pub mod Answer
 pub mod Written
-pub mod Limited
 pub mod Computed
 pub mod Examples
-pub mod Picked
-pub mod Sizes
-pub mod AcceptedRuns
 pub mod OwnAnswer

@@ -12,19 +12,22 @@ use Rattle.plan.specs.Text.{lineFeed, bytes, decimal, split, line}
 use Rattle.plan.specs.Plan.{Plan}
 use Rattle.plan.specs.Reading.{accepted, refused, readLines, emptyPlan, isTooLong, reading}
 use Rattle.plan.specs.Orders.{picksUpTo}
+use Rattle.machine.specs.Step.{finished}
 use Rattle.machine.specs.Figures.{finishingFigure}
 use Rattle.report.specs.Report.{outcomeLine, taskLines, lockLine, report}
 use Rattle.bench.specs.declared.Answer.the-variants.{Reports}
-use Rattle.bench.specs.Answer.{setupOf, reached, reportOf, storeSize, written, played, run}
+use Rattle.orders.specs.Reached.{setupOf, reached}
+use Rattle.orders.specs.AcceptedRuns.{own-finish}
+use Rattle.bench.specs.Answer.{reportOf, storeSize, written, played, run}
 use Rattle.bench.specs.Written.{written-whole}
-use Rattle.bench.specs.AcceptedRuns.{own-finish}
 
 -- no accepted text is too long
 not-too-long : (text : List ℕ) (p : Plan) → reading text ≡ accepted p → isTooLong text ≡ false
 unfolding reading
 not-too-long text p e = go (isTooLong text) refl e
   where
-    go : (b : Bool) → isTooLong text ≡ b → cond b (refused TextTooLong 0) (readLines emptyPlan 1 (split lineFeed text)) ≡ accepted p → isTooLong text ≡ false
+    go : (b : Bool) → isTooLong text ≡ b → cond b (refused TextTooLong 0) (readLines emptyPlan 1 (split lineFeed text)) ≡ accepted p
+        → isTooLong text ≡ false
     go true d z = clash (cc)
     go false d z = d
 
@@ -35,7 +38,8 @@ Begins bs xs = (rest : List ℕ) × (xs ≡ bs ++ rest)
 regroup : (a b c d : List ℕ) → (a ++ b ++ c) ++ d ≡ a ++ (b ++ (c ++ d))
 regroup a b c d = simp append-assoc
 
-report-begins : (p : Plan) (limit : ℕ) (bs xs : List ℕ) → outcomeLine (setupOf p) (reached p limit) ≡ bs → Begins (reportOf p limit) xs → Begins bs xs
+report-begins : (p : Plan) (limit : ℕ) (bs xs : List ℕ) → outcomeLine (setupOf p) (reached p limit) ≡ bs → Begins (reportOf p limit) xs
+    → Begins bs xs
 unfolding report
 report-begins p limit bs xs e (rest, f) =
     let c = setupOf p in
@@ -43,8 +47,14 @@ report-begins p limit bs xs e (rest, f) =
     let ls = taskLines c s 0 (p .tasks) ++ (lockLine c s ++ rest) in
     (ls, f ∙ regroup (outcomeLine c s) (taskLines c s 0 (p .tasks)) (lockLine c s) rest ∙ ap (λ (l : List ℕ). l ++ ls) e)
 
+-- the first line of the report of a finished run
+outcome-finished : (p : Plan) (limit : ℕ) → finished (setupOf p) (reached p limit) ≡ true
+    → outcomeLine (setupOf p) (reached p limit) ≡ line (bytes "E" ∷ bytes "finished" ∷ decimal ((reached p limit) .picks) ∷ [])
+outcome-finished p limit e = rw e refl
+
 -- ---- the answer of a run of an accepted text, with a store that is long enough
-module _ (text : List ℕ) (p : Plan) (e : reading text ≡ accepted p) (limit : ℕ) (store output : List ℕ) (room : storeSize ≤ length store) where
+module _ (text : List ℕ) (p : Plan) (e : reading text ≡ accepted p) (limit : ℕ) (store output : List ℕ)
+    (room : storeSize ≤ length store) where
   -- the report of the state that the plan's own picks reach, where the output is long enough for it, and else a refusal
   pub answers : run limit store output text ≡ written limit store output ((reached p limit) .picks) (reportOf p limit)
   unfolding run played
@@ -60,7 +70,8 @@ module _ (text : List ℕ) (p : Plan) (e : reading text ≡ accepted p) (limit :
 
     -- if every B picks in a row include each worker, and there are as many as the finishing figure, the output begins with the line
     -- that says `finished`, with no more picks taken than that
-    pub own-answer-finishes : (B : ℕ) → Regular (p .workers) B (picksUpTo limit p) → finishingFigure (setupOf p) B ≤ length (picksUpTo limit p)
+    pub own-answer-finishes : (B : ℕ) → Regular (p .workers) B (picksUpTo limit p)
+        → finishingFigure (setupOf p) B ≤ length (picksUpTo limit p)
         → (picks : ℕ) × (n : ℕ)
         × ((run limit store output text) .answer ≡ Reports picks n)
         × (picks ≤ finishingFigure (setupOf p) B)
@@ -68,4 +79,4 @@ module _ (text : List ℕ) (p : Plan) (e : reading text ≡ accepted p) (limit :
     own-answer-finishes B regular enough =
         let (a, b) = own-answer in
         let (f, k) = own-finish text p e limit B regular enough in
-        ((reached p limit) .picks, length (reportOf p limit), a, k, report-begins p limit _ _ f b)
+        ((reached p limit) .picks, length (reportOf p limit), a, k, report-begins p limit _ _ (outcome-finished p limit f) b)

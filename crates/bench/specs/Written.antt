@@ -9,11 +9,16 @@ use Rattle.bench.specs.Answer.{cleared, refusal, written}
 use Rattle.bench.specs.declared.Answer.the-variants.{Reports}
 
 module _ (limit : ℕ) (store output : List ℕ) (picks : ℕ) (bs : List ℕ) where
-  pub written-short : length output < length bs → written limit store output picks bs ≡ refusal limit store output OutputTooShort 0 (cleared limit store output)
+  pub written-short : length output < length bs
+      → written limit store output picks bs ≡ refusal limit store output OutputTooShort 0 (cleared limit store output)
   unfolding written
   written-short l = rw (lt-ltb (length output) (length bs) l, written)
 
   pub written-whole : length bs ≤ length output
-      → written limit store output picks bs ≡ record { answer = Reports picks (length bs); store = cleared limit store output; output = bs ++ drop (length bs) output }
+      → written limit store output picks bs ≡ record {
+        answer = Reports picks (length bs);
+        store = cleared limit store output;
+        output = bs ++ drop (length bs) output;
+      }
   unfolding written
   written-whole l = rw (le-ltb (length output) (length bs) l, written)

@@ -3,12 +3,11 @@ ghost use mathlib.Core.Path.{_≡_};
 ghost use mathlib.Core.List.{_++_};
 ghost use Prim.Native.Nat.{_≤_};
 ghost use lib.ListN.{length, drop, replicate};
-ghost use Rattle.bench.specs.Answer.{Outcome, check as checks, run as runs};
+ghost use Rattle.bench.specs.Answer.{check as checks, run as runs};
 use plan::Refusal;
 use play::run_plan;
 use reader::Checked;
 
-pub mod owner; // owner.rt: who owns the lock
 pub mod play; // play.rt: a run of an accepted plan
 
 // What a run gives: the picks taken and the report's length, or a refusal and its line, which is 0 if it is not the plan's.

@@ -32,17 +32,17 @@ pub data Op : Type 0 where
   try : Op
 
 -- what worker w may do where it stands
-abbrev pub Can : ℕ → Lock → Stand → ℕ → Op → Type 0
-Can N l x w take = x ≡ out
-Can N l x w (register t) = x ≡ taken t
-Can N l x w (own t) = (x ≡ waiting t) × (look N l t w ≡ lock.owns)
-Can N l x w (receive t i) = (x ≡ waiting t) × (look N l t w ≡ lock.receives i)
-Can N l x w (fill v i) = (x ≡ owning) × (front N l ≡ some v)
-Can N l x w pass = x ≡ serving
-Can N l x w leave = x ≡ owning
-Can N l x w try = (x ≡ out) × (isFree l ≡ true)
+pub data Can (N : ℕ) (l : Lock) (x : Stand) (w : ℕ) : Op → Type 0 where
+  can-take : x ≡ out → Can N l x w take
+  can-register : (t : ℕ) → x ≡ taken t → Can N l x w (register t)
+  can-own : (t : ℕ) → x ≡ waiting t → look N l t w ≡ lock.owns → Can N l x w (own t)
+  can-receive : (t i : ℕ) → x ≡ waiting t → look N l t w ≡ lock.receives i → Can N l x w (receive t i)
+  can-fill : (v i : ℕ) → x ≡ owning → front N l ≡ some v → Can N l x w (fill v i)
+  can-pass : x ≡ serving → Can N l x w pass
+  can-leave : x ≡ owning → Can N l x w leave
+  can-try : x ≡ out → isFree l ≡ true → Can N l x w try
 
-abbrev pub after : ℕ → Lock → ℕ → Op → Lock
+unfoldable pub after : ℕ → Lock → ℕ → Op → Lock
 after N l w take = lock.takeTicket l
 after N l w (register t) = lock.register N l t w
 after N l w (own t) = l
@@ -62,16 +62,36 @@ standAfter l pass = owning
 standAfter l leave = out
 standAfter l try = owning
 
--- 1 for an operation that hands over
+-- what an operation changes: the head, a registration, a cell, the tail, or nothing but where its worker stands
+pub data Part : Type 0 where
+  ofHead : Part
+  ofRegistration : Part
+  ofCell : Part
+  ofTail : Part
+  ofNothing : Part
+
+abbrev pub changes : Op → Part
+changes take = ofHead
+changes (register t) = ofRegistration
+changes (own t) = ofNothing
+changes (receive t i) = ofNothing
+changes (fill v i) = ofCell
+changes pass = ofTail
+changes leave = ofTail
+changes try = ofHead
+
+-- 1 for an operation that hands over, takes a ticket, registers, fills a cell
 abbrev pub handsOver : Op → ℕ
-handsOver take = 0
-handsOver (register t) = 0
-handsOver (own t) = 0
-handsOver (receive t i) = 0
-handsOver (fill v i) = 0
-handsOver pass = 1
-handsOver leave = 1
-handsOver try = 0
+handsOver op = elim (changes op) [ ofHead ↦ 0 | ofRegistration ↦ 0 | ofCell ↦ 0 | ofTail ↦ 1 | ofNothing ↦ 0 ]
+
+abbrev pub takes : Op → ℕ
+takes op = elim (changes op) [ ofHead ↦ 1 | ofRegistration ↦ 0 | ofCell ↦ 0 | ofTail ↦ 0 | ofNothing ↦ 0 ]
+
+abbrev pub registers : Op → ℕ
+registers op = elim (changes op) [ ofHead ↦ 0 | ofRegistration ↦ 1 | ofCell ↦ 0 | ofTail ↦ 0 | ofNothing ↦ 0 ]
+
+abbrev pub fills : Op → ℕ
+fills op = elim (changes op) [ ofHead ↦ 0 | ofRegistration ↦ 0 | ofCell ↦ 1 | ofTail ↦ 0 | ofNothing ↦ 0 ]
 
 pub record Move : Type 0 where
   pub by : ℕ

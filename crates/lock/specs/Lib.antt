@@ -1,11 +1,7 @@
 pub mod Lock
-pub mod Looks
+pub mod History
+mod Inside
+pub mod Promise
 pub mod Arrays
 pub mod Answers
-pub mod History
-pub mod Ring
-pub mod Invariant
-pub mod Facts
-pub mod Keeps
-pub mod Promise
 pub mod Played

@@ -17,41 +17,89 @@ pub record Lock : Type 0 where
   pub cellTicket : ℕ → ℕ
   pub cellTask : ℕ → ℕ
 
+-- what a registration or a cell holds before it is written: tickets are above it
+abbrev pub EMPTY : ℕ
+EMPTY = 0
+
 unfoldable pub start : ℕ → Lock
-start N = record { head = N; tail = suc N; wait = λ _. N; registration = λ _. 0; cellTicket = λ _. 0; cellTask = λ _. 0 }
+start N =
+    record {
+      head = N;
+      tail = suc N;
+      wait = λ _. N;
+      registration = λ _. EMPTY;
+      cellTicket = λ _. EMPTY;
+      cellTask = λ _. EMPTY;
+    }
 
 -- taking a ticket gives the head and raises it by one
-abbrev pub takeTicket : Lock → Lock
-takeTicket l = record { head = suc (l .head); tail = l .tail; wait = l .wait; registration = l .registration; cellTicket = l .cellTicket; cellTask = l .cellTask }
+unfoldable pub takeTicket : Lock → Lock
+takeTicket l =
+    record {
+      head = suc (l .head);
+      tail = l .tail;
+      wait = l .wait;
+      registration = l .registration;
+      cellTicket = l .cellTicket;
+      cellTask = l .cellTask;
+    }
 
 -- a ticket and a worker number as one number, and the worker out of it again
-abbrev pub join : ℕ → ℕ → ℕ
+unfoldable pub join : ℕ → ℕ → ℕ
 join ticket worker = ticket + worker
 
-abbrev pub workerIn : ℕ → ℕ → ℕ
+unfoldable pub workerIn : ℕ → ℕ → ℕ
 workerIn registration ticket = registration - ticket
 
-abbrev pub register : ℕ → Lock → ℕ → ℕ → Lock
-register N l ticket worker = record { head = l .head; tail = l .tail; wait = l .wait; registration = upd (l .registration) (ticket % N) (join ticket worker); cellTicket = l .cellTicket; cellTask = l .cellTask }
+unfoldable pub register : ℕ → Lock → ℕ → ℕ → Lock
+register N l ticket worker =
+    record {
+      head = l .head;
+      tail = l .tail;
+      wait = l .wait;
+      registration = upd (l .registration) (ticket % N) (join ticket worker);
+      cellTicket = l .cellTicket;
+      cellTask = l .cellTask;
+    }
 
 -- it is a ticket's turn
-abbrev pub turn : ℕ → Lock → ℕ → Bool
+unfoldable pub turn : ℕ → Lock → ℕ → Bool
 turn N l ticket = leb ticket (l .wait (ticket % N))
 
 -- the tail goes into its wait slot and is raised
-abbrev pub handOver : ℕ → Lock → Lock
-handOver N l = record { head = l .head; tail = suc (l .tail); wait = upd (l .wait) (l .tail % N) (l .tail); registration = l .registration; cellTicket = l .cellTicket; cellTask = l .cellTask }
+unfoldable pub handOver : ℕ → Lock → Lock
+handOver N l =
+    record {
+      head = l .head;
+      tail = suc (l .tail);
+      wait = upd (l .wait) (l .tail % N) (l .tail);
+      registration = l .registration;
+      cellTicket = l .cellTicket;
+      cellTask = l .cellTask;
+    }
 
 -- the worker that is registered with the tail
 unfoldable pub front : ℕ → Lock → Option ℕ
-front N l = elim (leb (l .tail) (l .registration (l .tail % N))) [ true ↦ some (workerIn (l .registration (l .tail % N)) (l .tail)) | false ↦ none ]
+front N l =
+    elim (leb (l .tail) (l .registration (l .tail % N))) [
+      | true ↦ some (workerIn (l .registration (l .tail % N)) (l .tail))
+      | false ↦ none
+    ]
 
-abbrev pub isFree : Lock → Bool
+unfoldable pub isFree : Lock → Bool
 isFree l = eqb (l .tail) (suc (l .head))
 
 -- a task, with the tail as its ticket, goes into a worker's cell
-abbrev pub fill : Lock → ℕ → ℕ → Lock
-fill l worker task = record { head = l .head; tail = l .tail; wait = l .wait; registration = l .registration; cellTicket = upd (l .cellTicket) worker (l .tail); cellTask = upd (l .cellTask) worker task }
+unfoldable pub fill : Lock → ℕ → ℕ → Lock
+fill l worker task =
+    record {
+      head = l .head;
+      tail = l .tail;
+      wait = l .wait;
+      registration = l .registration;
+      cellTicket = upd (l .cellTicket) worker (l .tail);
+      cellTask = upd (l .cellTask) worker task;
+    }
 
 -- what a registered worker sees when it looks
 pub data Look : Type 0 where

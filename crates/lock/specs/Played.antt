@@ -1,12 +1,16 @@
--- A history of two workers in which every operation comes, so that no guard is out of reach: worker 1 owns the lock and serves worker 0, who receives; then worker 0 tries the free lock.
+-- A history of two workers in which every operation comes, so that no guard is out of reach: worker 1 owns the lock and serves worker 0,
+-- who receives; then worker 0 tries the free lock.
 use mathlib.Core.Path.{_≡_, refl}
 use mathlib.Core.List.{List, [], _∷_}
 use mathlib.Core.Option.{none, some}
 use Prim.Native.Nat.{ℕ, _+_, _%_}
 use native.Mathlib.Omega.{arith}
 use Rattle.runs.specs.Update.{upd}
-use Rattle.lock.specs.Lock.{Lock, start, front, notYet, owns, look}
-use Rattle.lock.specs.History.{Stand, take, register, own, receive, fill, pass, leave, try, Move, still, then, History, handOvers}
+use Rattle.lock.specs.Lock as lock
+use Rattle.lock.specs.Lock.{Lock, start, takeTicket, join, turn, handOver, front, workerIn, isFree, notYet, owns, look}
+use Rattle.lock.specs.History.{Stand, take, register, own, receive, fill, pass, leave, try, after, Move, still, then, History}
+use Rattle.lock.specs.History.{handOvers}
+use Rattle.lock.specs.History.{can-take, can-register, can-own, can-receive, can-fill, can-pass, can-leave, can-try}
 
 abbrev pub moves : List Move
 moves =
@@ -23,21 +27,21 @@ moves =
     ∷ []
 
 pub played : (l : Lock) × (st : ℕ → Stand) × History 2 64 moves l st × (l .head ≡ 67) × (l .tail ≡ 67) × (handOvers moves ≡ 2)
-unfolding start front look upd handOvers
+unfolding upd start takeTicket lock.register join turn handOver front workerIn isFree lock.fill look handOvers after
 played = (
   _,
   _,
   then (then (then (then (then (then (then (then (then (then still
-      1 (omega arith) take refl)
-      0 (omega arith) take refl)
-      1 (omega arith) (register 64) refl)
-      0 (omega arith) (register 65) refl)
-      1 (omega arith) (own 64) (refl, refl))
-      1 (omega arith) (fill 0 7) (refl, refl))
-      1 (omega arith) pass refl)
-      0 (omega arith) (receive 65 7) (refl, refl))
-      1 (omega arith) leave refl)
-      0 (omega arith) try (refl, refl),
+      1 (omega arith) take (can-take refl))
+      0 (omega arith) take (can-take refl))
+      1 (omega arith) (register 64) (can-register 64 refl))
+      0 (omega arith) (register 65) (can-register 65 refl))
+      1 (omega arith) (own 64) (can-own 64 refl refl))
+      1 (omega arith) (fill 0 7) (can-fill 0 7 refl refl))
+      1 (omega arith) pass (can-pass refl))
+      0 (omega arith) (receive 65 7) (can-receive 65 7 refl refl))
+      1 (omega arith) leave (can-leave refl))
+      0 (omega arith) try (can-try refl refl),
   refl,
   refl,
   refl,
@@ -47,7 +51,8 @@ played = (
 abbrev pub with : ℕ → Lock
 with r = record { head = 10; tail = 8; wait = λ k. 4 + k % 4; registration = λ _. r; cellTicket = λ _. 0; cellTask = λ _. 0 }
 
--- worker 0 that registered with ticket 8 is the front waiter, worker 1 that registered with ticket 4 a lap ago is none; ticket 7's turn has come, and ticket 8's not
+-- worker 0 that registered with ticket 8 is the front waiter, worker 1 that registered with ticket 4 a lap ago is none; ticket 7's turn has
+-- come, and ticket 8's not
 pub seen : (front 4 (with 8) ≡ some 0) × (front 4 (with 5) ≡ none) × (look 4 (with 8) 7 1 ≡ owns) × (look 4 (with 8) 8 0 ≡ notYet)
-unfolding front look
+unfolding turn front workerIn look
 seen = (refl, refl, refl, refl)

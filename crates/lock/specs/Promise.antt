@@ -1,22 +1,27 @@
--- The lock's promise, for every ring size N from the number W of workers on: what a caller may cite. Nothing here asks it to open a definition.
-use mathlib.Core.Path.{_≡_, refl, sym, ap, _∙_}
-use mathlib.Core.Logic.{_⊎_, inl, inr, ⊎-elim, _≢_, _↔_}
+-- The lock's promise, for every ring size N from the number W of workers on. A client cites these sentences, and opens nothing.
+use mathlib.Core.Path.{_≡_, refl}
+use mathlib.Core.Logic.{_⊎_, _≢_, _↔_}
 use mathlib.Core.Bool.{true, false}
-use mathlib.Core.Option.{Option, none, some}
-use mathlib.Core.List.{List, List·Memᴰ, List·Memᴰ·head, List·Memᴰ·tail}
-use Prim.Native.Nat.{ℕ, suc, _+_, _-_, _%_, _≤_, _<_}
-use native.Mathlib.Omega.{arith}
+use mathlib.Core.Option.{none, some}
+use mathlib.Core.List.{List, [], _∷_, _++_, List·Memᴰ}
+use Prim.Native.Nat.{ℕ, suc, _+_, _-_, _≤_, _<_}
 use lib.ListN.{length}
-use borrow.Author.Tests.{leb-true, le-leb, eqb-true, eq-eqb}
-use Rattle.runs.specs.Update.{same, order, upd, upd-same, upd-other, clash}
-use Rattle.lock.specs.Lock.{Lock, start, turn, distance, front, isFree, notYet, receives, owns, look}
+use Rattle.runs.specs.Update.{upd}
 use Rattle.lock.specs.Lock as lock
-use Rattle.lock.specs.History.{Stand, out, taken, waiting, owning, serving, Op, take, register, own, receive, fill, pass, leave, try, Can, after, standAfter, handsOver, Move, handOvers, Run, still, then, History, Holds, Owner, Served, Due, Called, InCell}
-use Rattle.lock.specs.Looks.{looks-early, looks-served, looks-first, seen}
-use Rattle.lock.specs.Ring.{turn-iff}
-use Rattle.lock.specs.Invariant.{Leads, Aside, Led, free, led, Inv}
-use Rattle.lock.specs.Facts.{holds-held, held-holds, no-ticket, owner-leads, aside-served, leads-called, not-both, leads-or-aside, led-by, one-leader, free-or-led, room, slot-iff, late, unfilled, front-waits, waits-front}
-use Rattle.lock.specs.Keeps.{starts, keeps}
+use Rattle.lock.specs.Lock.{Lock, EMPTY, start, turn, join, distance, front, isFree, notYet, receives, owns, look}
+use Rattle.lock.specs.History.{Stand, out, taken, waiting, owning, serving, Op, take, register, own, receive, fill, pass, leave, try}
+use Rattle.lock.specs.History.{Can, after, standAfter, handsOver, takes, registers, fills, Move, handOvers, Run, History}
+use Rattle.lock.specs.History.{Holds, Owner, Served, Due, Called, InCell}
+use Rattle.lock.specs.Inside.Invariant.{Inv}
+use Rattle.lock.specs.Inside.Facts as Facts
+use Rattle.lock.specs.Inside.Keeps as Keeps
+use Rattle.lock.specs.Inside.Laws as Laws
+use Rattle.lock.specs.Inside.Changes as Changes
+use Rattle.lock.specs.Inside.Histories as Histories
+
+-- what every history of the operations keeps, of the lock and of where the workers stand; nobody else can open it or make one
+pub record Kept (W N : ℕ) (l : Lock) (st : ℕ → Stand) : Type 0 where
+  inv : Inv W N l st
 
 -- who leads the lock
 pub data Leader (W : ℕ) (l : Lock) (st : ℕ → Stand) : Type 0 where
@@ -24,303 +29,343 @@ pub data Leader (W : ℕ) (l : Lock) (st : ℕ → Stand) : Type 0 where
   called : (w : ℕ) → w < W → Called l st w → Leader W l st
   owner : (w : ℕ) → w < W → Owner (st w) → Leader W l st
 
-module _ {W N : ℕ} {l : Lock} {st : ℕ → Stand} (i : Inv W N l st) where
-  -- while a worker leads the lock isn't free, and whose turn has come is served unless it is that one
-  led-lock : (w : ℕ) → Leads (l .tail) (l .cellTicket w) (st w) → (l .tail ≤ l .head) × ((v : ℕ) → v ≢ w → (Owner (st v) → ⊥) × Served l st v)
-  led-lock w q =
-      let (b, a) = led-by (i .leader) w q in
-      (b, λ v n. (λ o. not-both (l .tail) (l .cellTicket v) (st v) (owner-leads _ _ _ o) (a v n), aside-served (l .tail) (l .cellTicket v) (st v) (a v n)))
+-- ---- the start
 
-  called-leads : (w : ℕ) → Called l st w → Leads (l .tail) (l .cellTicket w) (st w)
-  called-leads w (t, inl e, q, c) = rw e q
-  called-leads w (t, inr e, q, c) = rw e (q, c)
+-- the lock is kept as soon as the ring has a slot for each worker
+pub kept-start : (W N : ℕ) → 0 < W → W ≤ N → Kept W N (start N) (λ _. out)
+kept-start W N any fits = record { inv = Keeps.starts W N any fits }
+
+-- the first ticket is N, and it is let in already
+pub start-ends : (N : ℕ) → (start N .head ≡ N) × (start N .tail ≡ suc N)
+unfolding start
+start-ends N = (refl, refl)
+
+-- the cells are empty
+pub start-cells : (N v : ℕ) → (start N .cellTicket v ≡ EMPTY) × (start N .cellTask v ≡ EMPTY)
+unfolding start
+start-cells N v = (refl, refl)
+
+-- the lock is free
+pub start-free : (N : ℕ) → isFree (start N) ≡ true
+start-free N = Laws.free-at-start N
+
+-- ---- every operation keeps it
+
+pub kept-after : {W N : ℕ} {l : Lock} {st : ℕ → Stand} → Kept W N l st → (w : ℕ) → w < W → (op : Op) → Can N l (st w) w op
+    → Kept W N (after N l w op) (upd st w (standAfter l op))
+kept-after k w h op can = record { inv = Keeps.keeps (k .inv) w h can }
+
+module _ {W N : ℕ} {l : Lock} {st : ℕ → Stand} (k : Kept W N l st) where
+  pub kept-sizes : (0 < W) × (W ≤ N)
+  kept-sizes = k .inv .sizes
 
   -- ---- tickets
 
   -- a ticket that is held was given
   pub ticket-given : (w t : ℕ) → Holds (st w) t → (N ≤ t) × (t < l .head)
-  ticket-given w t (inl e) = let g : (N ≤ t) × (t < l .head) × (l .cellTicket w < t) = rw e at (i .givens w) in omega arith
-  ticket-given w t (inr e) = rw e at (i .givens w)
+  ticket-given = Laws.ticket-given (k .inv)
 
   -- no two workers hold one ticket
   pub ticket-one : (v w t : ℕ) → Holds (st v) t → Holds (st w) t → v ≡ w
-  ticket-one v w t p q = i .tickets .apart v w (omega (arith, i .sizes, holds-held p, ticket-given v t p)) (holds-held p ∙ sym (holds-held q))
+  ticket-one = Laws.ticket-one (k .inv)
 
   -- each ticket from the tail on that was given is held by a worker
   pub ticket-each : (t : ℕ) → l .tail ≤ t → t < l .head → (w : ℕ) × (w < W) × Holds (st w) t
-  ticket-each t a b =
-      let (w, h, e) = i .tickets .each t a b in
-      (w, h, rw e at (held-holds (st w) (omega (arith, i .tickets .begun))))
+  ticket-each = Laws.ticket-each (k .inv)
 
   -- a ticket that isn't registered is newer than what the worker's cell holds
   pub ticket-new : (w t : ℕ) → st w ≡ taken t → l .cellTicket w < t
-  ticket-new w t e = (rw e at (i .givens w)) .2
+  ticket-new = Laws.ticket-new (k .inv)
 
   -- only workers below W have to do with the lock
   pub worker-below : (w : ℕ) → st w ≢ out → w < W
-  worker-below w n = ⊎-elim (λ (h : w < W). h) (λ (h : W ≤ w). absurd (n (i .workers w h))) (order w W)
+  worker-below = Laws.worker-below (k .inv)
 
   pub holder-below : (w t : ℕ) → Holds (st w) t → w < W
-  holder-below w t (inl e) = worker-below w (λ z. clash (cc))
-  holder-below w t (inr e) = worker-below w (λ z. clash (cc))
+  holder-below = Laws.holder-below (k .inv)
 
   -- ---- head and tail
 
+  -- the tail is past the first ticket, and past the head by at most one
   pub ends : (N < l .tail) × (l .tail ≤ suc (l .head))
-  ends = (i .tickets .begun, free-or-led (i .leader))
+  ends = Laws.ends (k .inv)
 
   -- at most W tickets from the newest below the tail on
   pub ends-near : suc (l .head) ≤ l .tail + W
-  ends-near = room N (i .tickets) (i .leader)
+  ends-near = Laws.ends-near (k .inv)
 
+  -- the lock is free exactly when the tail is one past the head
   pub free-iff : (isFree l ≡ true) ↔ (l .tail ≡ suc (l .head))
-  free-iff = (eqb-true (l .tail) (suc (l .head)), eq-eqb (l .tail) (suc (l .head)))
+  free-iff = Laws.free-iff (k .inv)
+
+  pub busy-iff : (isFree l ≡ false) ↔ (l .tail ≤ l .head)
+  busy-iff = Laws.busy-iff (k .inv)
 
   -- ---- turns
 
   -- a ticket's turn has come exactly when it is below the tail
   pub turn-below : (t : ℕ) → N ≤ t → (turn N l t ≡ true) ↔ (t < l .tail)
-  turn-below t h =
-      let (a, b) = turn-iff N (l .tail) (l .wait) (i .slots) t h in
-      (λ e. a (leb-true t (l .wait (t % N)) e), λ c. le-leb t (l .wait (t % N)) (b c))
+  turn-below = Laws.turn-below (k .inv)
 
-  -- the tail was `from`, and `hands` hand-overs have come since: the turn has come exactly when these are at least the distance that the ticket had
+  -- the tail was `from` and `hands` hand-overs have come since: it has come exactly when these are at least the ticket's distance then
   pub turn-hands : (t from hands : ℕ) → N ≤ t → l .tail ≡ from + hands → (turn N l t ≡ true) ↔ (suc t - from ≤ hands)
-  turn-hands t from hands h e =
-      let (a, b) = turn-below t h in
-      (λ q. let c : t < l .tail = a q in omega arith, λ q. b (omega arith))
+  turn-hands = Laws.turn-hands (k .inv)
 
   -- the distance of a ticket that its worker is about to register loses nothing by the subtraction, and is below W
   pub distance-whole : (w t : ℕ) → st w ≡ taken t → (distance l t + l .tail ≡ suc t) × (distance l t < W)
-  distance-whole w t e = (omega (arith, late i w t e), omega (arith, i .sizes, ends-near, ticket-given w t (inl e)))
+  distance-whole = Laws.distance-whole (k .inv)
 
   -- ---- looks
 
-  module _ (w t : ℕ) (e : st w ≡ waiting t) where
-    pub look-early : (look N l t w ≡ notYet) ↔ (l .tail ≤ t)
-    look-early = (
-      λ q. let z : l .wait (t % N) < t = rw q at (seen N l t w) in ⊎-elim (λ (h : t < l .tail). absurd (omega (arith, (slot-iff i w t e) .1 h))) (λ (h : l .tail ≤ t). h) (order t (l .tail)),
-      λ h. looks-early N l t w (⊎-elim (λ (z : l .wait (t % N) < t). z) (λ (z : t ≤ l .wait (t % N)). absurd (omega (arith, (slot-iff i w t e) .0 z))) (order (l .wait (t % N)) t)),
-    )
+  -- a waiting worker is told to wait on exactly when its ticket is not below the tail
+  pub look-early : (w t : ℕ) → st w ≡ waiting t → (look N l t w ≡ notYet) ↔ (l .tail ≤ t)
+  look-early = Laws.look-early (k .inv)
 
-    pub look-served : (j : ℕ) → (look N l t w ≡ receives j) ↔ ((t < l .tail) × (l .cellTicket w ≡ t) × (l .cellTask w ≡ j))
-    look-served j = (
-      λ q. let (a, b, c) = rw q at (seen N l t w) in ((slot-iff i w t e) .0 a, b, c),
-      λ (a, b, c). looks-served N l t w ((slot-iff i w t e) .1 a) b ∙ ap receives c,
-    )
+  -- it receives exactly when its turn has come and its cell holds its ticket
+  pub look-served : (w t : ℕ) → st w ≡ waiting t → (j : ℕ)
+      → (look N l t w ≡ receives j) ↔ ((t < l .tail) × (l .cellTicket w ≡ t) × (l .cellTask w ≡ j))
+  look-served = Laws.look-served (k .inv)
 
-    pub look-called : (look N l t w ≡ owns) ↔ ((t < l .tail) × (l .cellTicket w ≢ t))
-    look-called = (
-      λ q. let (a, b) = rw q at (seen N l t w) in ((slot-iff i w t e) .0 a, b),
-      λ (a, b). looks-first N l t w ((slot-iff i w t e) .1 a) b,
-    )
+  -- it owns exactly when its turn has come and its cell doesn't hold its ticket
+  pub look-called : (w t : ℕ) → st w ≡ waiting t → (look N l t w ≡ owns) ↔ ((t < l .tail) × (l .cellTicket w ≢ t))
+  look-called = Laws.look-called (k .inv)
 
   -- ---- who leads
 
+  -- nobody, and the lock is free; or a worker is called to own it; or a worker owns it
   pub leader : Leader W l st
-  leader = go (i .leader)
-    where
-      go : Led W (l .head) (l .tail) (l .cellTicket) st → Leader W l st
-      go (free q a) = nobody (free-iff .1 q)
-      go (led w h b q a) =
-          ⊎-elim (λ (o : Owner (st w)). owner w h o) (λ (c : Called l st w). called w h c)
-          (leads-called N (l .head) (l .tail) (l .cellTicket w) (st w) (i .givens w) q)
+  leader = Laws.leader (k .inv) nobody called owner
 
   -- while the lock is free nobody owns it, and who has a ticket waits with it, its turn has come and it is served
-  pub free-lock : isFree l ≡ true → ((v : ℕ) → Owner (st v) → ⊥) × ((v t : ℕ) → Holds (st v) t → (st v ≡ waiting t) × (t < l .tail) × (l .cellTicket v ≡ t))
-  free-lock f = go (i .leader)
-    where
-      go : Led W (l .head) (l .tail) (l .cellTicket) st → ((v : ℕ) → Owner (st v) → ⊥) × ((v t : ℕ) → Holds (st v) t → (st v ≡ waiting t) × (t < l .tail) × (l .cellTicket v ≡ t))
-      go (free q a) = (
-        λ v o. not-both (l .tail) (l .cellTicket v) (st v) (owner-leads _ _ _ o) (a v),
-        λ v t o.
-            let b : t < l .tail = omega (arith, ticket-given v t o) in
-            let (e, c) = aside-served (l .tail) (l .cellTicket v) (st v) (a v) t o b in
-            (e, b, c),
-      )
-      go (led w h b q a) = let z : l .tail ≡ suc (l .head) = free-iff .0 f in absurd (omega arith)
+  pub free-lock : isFree l ≡ true
+      → ((v : ℕ) → Owner (st v) → ⊥) × ((v t : ℕ) → Holds (st v) t → (st v ≡ waiting t) × (t < l .tail) × (l .cellTicket v ≡ t))
+  free-lock = Laws.free-lock (k .inv)
 
   -- while nobody owns and a worker is called, the lock isn't free, and whose turn has come is served, but for that worker
-  pub called-lock : (w : ℕ) → Called l st w → (l .tail ≤ l .head) × ((v : ℕ) → Owner (st v) → ⊥) × ((v : ℕ) → v ≢ w → Served l st v)
-  called-lock w c =
-      let (b, a) = led-lock w (called-leads w c) in
-      let else : (v : ℕ) → Owner (st v) → v ≡ w → ⊥ = λ v o e. no-ticket (rw e at o) (c .1) in
-      (b, λ v o. ⊎-elim (else v o) (λ (n : v ≢ w). (a v n) .0 o) (same v w), λ v n. (a v n) .1)
+  pub called-lock : (w : ℕ) → Called l st w
+      → (l .tail ≤ l .head) × ((v : ℕ) → Owner (st v) → ⊥) × ((v : ℕ) → v ≢ w → Served l st v)
+  called-lock = Laws.called-lock (k .inv)
 
   -- while a worker owns, whose turn has come is served
   pub owned-lock : (w : ℕ) → Owner (st w) → (l .tail ≤ l .head) × ((v : ℕ) → Served l st v)
-  owned-lock w o =
-      let (b, a) = led-lock w (owner-leads _ _ _ o) in
-      (b, λ v. ⊎-elim (λ (e : v ≡ w). λ t h k. absurd (no-ticket o (rw e at h))) (λ (n : v ≢ w). (a v n) .1) (same v w))
+  owned-lock = Laws.owned-lock (k .inv)
 
   -- at most one worker owns
   pub one-owner : (v w : ℕ) → Owner (st v) → Owner (st w) → v ≡ w
-  one-owner v w p q = one-leader (i .leader) v w (owner-leads _ _ _ p) (owner-leads _ _ _ q)
+  one-owner = Laws.one-owner (k .inv)
 
   -- while nobody owns and the lock isn't free, exactly one worker's turn has come that is not served, and it is called
-  pub one-due : isFree l ≡ false → ((v : ℕ) → Owner (st v) → ⊥) → (w : ℕ) × (w < W) × Called l st w × ((v : ℕ) → Due l st v → v ≡ w)
-  one-due f n = go leader
-    where
-      go : Leader W l st → (w : ℕ) × (w < W) × Called l st w × ((v : ℕ) → Due l st v → v ≡ w)
-      go (nobody e) = clash (cc)
-      go (called w h c) =
-          (w, h, c, λ v (t, o, b, d). ⊎-elim (λ (e : v ≡ w). e) (λ (m : v ≢ w). absurd (d (((called-lock w c) .2 v m t o b) .1))) (same v w))
-      go (owner w h o) = absurd (n w o)
+  pub one-due : isFree l ≡ false → ((v : ℕ) → Owner (st v) → ⊥)
+      → (w : ℕ) × (w < W) × Called l st w × ((v : ℕ) → Due l st v → v ≡ w)
+  one-due = Laws.one-due (k .inv)
 
   -- who waits: its turn has not come, or it is served, or it is called
-  pub waits : (w t : ℕ) → st w ≡ waiting t → (l .tail ≤ t) ⊎ ((t < l .tail) × InCell l st w t (l .cellTask w)) ⊎ ((suc t ≡ l .tail) × (l .cellTicket w ≢ t))
-  waits w t e = go (order t (l .tail)) (leads-or-aside (i .leader) w)
-    where
-      go : (t < l .tail) ⊎ (l .tail ≤ t) → Leads (l .tail) (l .cellTicket w) (st w) ⊎ Aside (l .tail) (l .cellTicket w) (st w)
-          → (l .tail ≤ t) ⊎ ((t < l .tail) × InCell l st w t (l .cellTask w)) ⊎ ((suc t ≡ l .tail) × (l .cellTicket w ≢ t))
-      go (inr h) q = inl h
-      go (inl h) (inl q) = inr (inr (rw e at q))
-      go (inl h) (inr a) = inr (inl (h, (e, (rw e at a) h, refl)))
+  pub waits : (w t : ℕ) → st w ≡ waiting t
+      → (l .tail ≤ t) ⊎ ((t < l .tail) × InCell l st w t (l .cellTask w)) ⊎ ((suc t ≡ l .tail) × (l .cellTicket w ≢ t))
+  waits = Laws.waits (k .inv)
 
   -- ---- the front waiter
 
   -- it is exactly the worker that waits with the tail: no registration of an earlier lap is taken for a waiter
   pub front-iff : (v : ℕ) → (front N l ≡ some v) ↔ ((v < W) × (st v ≡ waiting (l .tail)))
-  front-iff v = (front-waits i v, λ (h, e). waits-front i v e)
+  front-iff = Laws.front-iff (k .inv)
 
   pub front-none-iff : (front N l ≡ none) ↔ ((v : ℕ) → st v ≢ waiting (l .tail))
-  front-none-iff = (λ q v e. let z : front N l ≡ some v = waits-front i v e in clash (cc), λ n. go n (front N l) refl)
-    where
-      go : ((v : ℕ) → st v ≢ waiting (l .tail)) → (o : Option ℕ) → front N l ≡ o → front N l ≡ none
-      go n none e = e
-      go n (some v) e = absurd (n v ((front-waits i v e) .1))
+  front-none-iff = Laws.front-none-iff (k .inv)
+
+  -- it can do nothing of its own
+  pub front-still : (v : ℕ) → front N l ≡ some v → (op : Op) → Can N l (st v) v op → ⊥
+  front-still = Changes.front-still (k .inv)
 
   -- ---- cells
 
-  -- what lies in the cell of a waiting worker is received as soon as its turn has come, and by nobody else
+  -- what lies in the cell of a waiting worker is received as soon as its turn has come, and not before
   pub cell-look : (v t j : ℕ) → InCell l st v t j → (t < l .tail → look N l t v ≡ receives j) × (l .tail ≤ t → look N l t v ≡ notYet)
-  cell-look v t j (e, c, d) = (λ h. (look-served v t e j) .1 (h, c, d), λ h. (look-early v t e) .1 h)
+  cell-look = Laws.cell-look (k .inv)
 
+  -- no other cell holds its ticket
   pub cell-one : (u v t j : ℕ) → InCell l st v t j → l .cellTicket u ≡ t → u ≡ v
-  cell-one u v t j (e, c, d) q = i .cells .apart u v (omega (arith, i .sizes, ticket-given v t (inr e))) (q ∙ sym c)
+  cell-one = Laws.cell-one (k .inv)
 
   -- an owner that serves has filled the cell of the front waiter
   pub serving-cell : (w : ℕ) → st w ≡ serving → (v : ℕ) × (v < W) × InCell l st v (l .tail) (l .cellTask v)
-  serving-cell w e =
-      let (v, q, c) = i .cells .served w e in
-      (v, worker-below v (λ z. clash (cc)), (q, c, refl))
+  serving-cell = Laws.serving-cell (k .inv)
 
   -- before that no cell holds the tail
   pub owning-cells : (w : ℕ) → st w ≡ owning → (v : ℕ) → l .cellTicket v < l .tail
-  owning-cells w e v = omega (arith, unfilled i w e v, i .cells .below v)
+  owning-cells = Laws.owning-cells (k .inv)
 
   -- a cell that holds a ticket whose turn has not come was filled by an owner that has not handed over yet
   pub cell-early : (v : ℕ) → l .tail ≤ l .cellTicket v → (w : ℕ) × (w < W) × (st w ≡ serving)
-  cell-early v h = let (w, e) = i .cells .filled v (omega (arith, i .cells .below v)) in (w, worker-below w (λ z. clash (cc)), e)
+  cell-early = Laws.cell-early (k .inv)
 
-  -- ---- one operation
-
-  pub cell-filled : (w v j : ℕ) → st w ≡ owning → front N l ≡ some v → InCell (lock.fill l v j) (upd st w serving) v (l .tail) j
-  cell-filled w v j e f =
-      let q : st v ≡ waiting (l .tail) = (front-waits i v f) .1 in
-      (upd-other st w serving v (λ z. let y : st v ≡ st w = ap st z in clash (cc)) ∙ q, upd-same (l .cellTicket) v (l .tail), upd-same (l .cellTask) v j)
+  -- a task that is put into the front waiter's cell lies there under its ticket
+  pub cell-filled : (w v j : ℕ) → st w ≡ owning → front N l ≡ some v → InCell (after N l w (fill v j)) (upd st w serving) v (l .tail) j
+  cell-filled = Changes.cell-filled (k .inv)
 
   -- what lies in a waiting worker's cell stays there until that worker receives it
-  module _ (w : ℕ) (v t j : ℕ) (inside : InCell l st v t j) where
-    stays : (x : Stand) → v ≢ w → InCell l (upd st w x) v t j
-    stays x n = let (e, c, d) = inside in (upd-other st w x v n ∙ e, c, d)
+  pub cell-stays : (w v t j : ℕ) → InCell l st v t j → (op : Op) → Can N l (st w) w op
+      → ((w ≡ v) × (op ≡ receive t j)) ⊎ InCell (after N l w op) (upd st w (standAfter l op)) v t j
+  cell-stays w v t j inside op can = Changes.cell-stays (k .inv) w v t j inside can
 
-    elsewhere : st w ≢ waiting t → v ≢ w
-    elsewhere n z = n (ap st (sym z) ∙ inside .0)
+  -- ---- what each operation changes: turns and the front waiter
 
-    pub cell-stays : (op : Op) → Can N l (st w) w op → ((w ≡ v) × (op ≡ receive t j)) ⊎ InCell (after N l w op) (upd st w (standAfter l op)) v t j
-    cell-stays take e = inr (stays (taken (l .head)) (elsewhere (λ z. clash (cc))))
-    cell-stays (register u) e = inr (stays (waiting u) (elsewhere (λ z. clash (cc))))
-    cell-stays (own u) (e, q) = inr (stays owning (elsewhere (λ z. let y : u ≡ t = cc in absurd (((look-called w u e) .0 q) .1 (mine y)))))
-      where
-        mine : u ≡ t → l .cellTicket w ≡ u
-        mine y = ap (l .cellTicket) (ticket-one w v t (inr (rw y at e)) (inr (inside .0))) ∙ inside .1 ∙ sym y
-    cell-stays (receive u k) (e, q) = ⊎-elim (λ (z : v ≡ w). inl (sym z, mine z)) (λ (n : v ≢ w). inr (stays out n)) (same v w)
-      where
-        mine : v ≡ w → receive u k ≡ receive t j
-        mine z =
-            let (a, c, d) = (look-served w u e k) .0 q in
-            let y : st v ≡ st w = ap st z in
-            let p : st v ≡ waiting t = inside .0 in
-            let r : l .cellTask v ≡ j = inside .2 in
-            let s : l .cellTask v ≡ l .cellTask w = ap (l .cellTask) z in
-            cc
-    cell-stays (fill u k) (e, f) =
-        let n : v ≢ w = elsewhere (λ z. clash (cc)) in
-        inr (upd-other st w serving v n ∙ inside .0, upd-other (l .cellTicket) u (l .tail) v unserved ∙ inside .1, upd-other (l .cellTask) u k v unserved ∙ inside .2)
-      where
-        unserved : v ≢ u
-        unserved z =
-            let q : st u ≡ waiting (l .tail) = (front-waits i u f) .1 in
-            let p : st v ≡ waiting t = inside .0 in
-            let r : st v ≡ st u = ap st z in
-            let y : t ≡ l .tail = cc in
-            omega (arith, owning-cells w e v, inside .1)
-    cell-stays pass e = inr (stays owning (elsewhere (λ z. clash (cc))))
-    cell-stays leave e = inr (stays out (elsewhere (λ z. clash (cc))))
-    cell-stays try (e, f) = inr (stays owning (elsewhere (λ z. clash (cc))))
+  -- turns come by hand-overs alone
+  pub turn-after : (w : ℕ) (op : Op) (t : ℕ) → N ≤ t → (turn N (after N l w op) t ≡ true) ↔ (t < l .tail + handsOver op)
+  turn-after = Changes.turn-after (k .inv)
 
--- the tail is raised by hand-overs alone
-pub tail-after : (N : ℕ) (l : Lock) (w : ℕ) (op : Op) → (after N l w op) .tail ≡ l .tail + handsOver op
-tail-after N l w take = omega arith
-tail-after N l w (register t) = omega arith
-tail-after N l w (own t) = omega arith
-tail-after N l w (receive t j) = omega arith
-tail-after N l w (fill v j) = omega arith
-tail-after N l w pass = omega arith
-tail-after N l w leave = omega arith
-tail-after N l w try = omega arith
+  -- the front waiter stays that until a hand-over
+  pub front-stays : (w : ℕ) → w < W → (op : Op) → Can N l (st w) w op → handsOver op ≡ 0
+      → (v : ℕ) → front N l ≡ some v → front N (after N l w op) ≡ some v
+  front-stays w h op can = Changes.front-stays (k .inv) w h can
 
--- the head is raised by at most one
-pub head-after : (N : ℕ) (l : Lock) (w : ℕ) (op : Op) → (l .head ≤ (after N l w op) .head) × ((after N l w op) .head ≤ suc (l .head))
-head-after N l w take = omega arith
-head-after N l w (register t) = omega arith
-head-after N l w (own t) = omega arith
-head-after N l w (receive t j) = omega arith
-head-after N l w (fill v j) = omega arith
-head-after N l w pass = omega arith
-head-after N l w leave = omega arith
-head-after N l w try = omega arith
+  -- without a hand-over nobody becomes it but who registers with the tail
+  pub front-comes : (w : ℕ) → w < W → (op : Op) → Can N l (st w) w op → handsOver op ≡ 0
+      → (v : ℕ) → front N (after N l w op) ≡ some v → (front N l ≡ some v) ⊎ ((v ≡ w) × (op ≡ register (l .tail)))
+  front-comes w h op can = Changes.front-comes (k .inv) w h can
+
+  -- and that worker does
+  pub front-registered : (w : ℕ) → w < W → st w ≡ taken (l .tail) → front N (after N l w (register (l .tail))) ≡ some w
+  front-registered = Changes.front-registered (k .inv)
+
+  -- after a hand-over it is who waits with the next ticket
+  pub front-handed : (w : ℕ) → w < W → (op : Op) → Can N l (st w) w op → handsOver op ≡ 1
+      → (v : ℕ) → (front N (after N l w op) ≡ some v) ↔ ((v < W) × (st v ≡ waiting (suc (l .tail))))
+  front-handed w h op can = Changes.front-handed (k .inv) w h can
+
+-- ---- of every lock, kept or not
+
+-- who holds a ticket holds one, and an owner holds none
+pub holds-one : {x : Stand} {s t : ℕ} → Holds x s → Holds x t → s ≡ t
+holds-one = Laws.holds-one
+
+pub owner-none : {x : Stand} {t : ℕ} → Owner x → Holds x t → ⊥
+owner-none = Facts.no-ticket
+
+-- a registration is a sum
+pub joined : (t w : ℕ) → join t w ≡ t + w
+unfolding join
+joined t w = refl
+
+-- who receives has a cell with its ticket, and who owns has none
+pub look-received : (N : ℕ) (l : Lock) (t w j : ℕ) → look N l t w ≡ receives j → (l .cellTicket w ≡ t) × (l .cellTask w ≡ j)
+look-received = Laws.look-received
+
+pub look-owned : (N : ℕ) (l : Lock) (t w : ℕ) → look N l t w ≡ owns → l .cellTicket w ≢ t
+look-owned = Laws.look-owned
+
+module _ (N : ℕ) (l : Lock) (w : ℕ) where
+  -- ---- what each operation is to the lock
+
+  pub after-take : after N l w take ≡ lock.takeTicket l
+  unfolding after
+  after-take = refl
+
+  pub after-register : (t : ℕ) → after N l w (register t) ≡ lock.register N l t w
+  unfolding after
+  after-register t = refl
+
+  pub after-own : (t : ℕ) → after N l w (own t) ≡ l
+  unfolding after
+  after-own t = refl
+
+  pub after-receive : (t j : ℕ) → after N l w (receive t j) ≡ l
+  unfolding after
+  after-receive t j = refl
+
+  pub after-fill : (v j : ℕ) → after N l w (fill v j) ≡ lock.fill l v j
+  unfolding after
+  after-fill v j = refl
+
+  pub after-pass : after N l w pass ≡ lock.handOver N l
+  unfolding after
+  after-pass = refl
+
+  pub after-leave : after N l w leave ≡ lock.handOver N l
+  unfolding after
+  after-leave = refl
+
+  pub after-try : after N l w try ≡ lock.takeTicket l
+  unfolding after
+  after-try = refl
+
+  -- ---- what each operation changes: head, tail and cells
+
+  -- the head is raised by those that take a ticket, and by nothing else
+  pub head-after : (op : Op) → (after N l w op) .head ≡ l .head + takes op
+  head-after op = (Changes.ends-after N l w op) .0
+
+  -- the tail is raised by hand-overs alone
+  pub tail-after : (op : Op) → (after N l w op) .tail ≡ l .tail + handsOver op
+  tail-after op = (Changes.ends-after N l w op) .1
+
+  -- a task goes into a cell with the tail as its ticket
+  pub fill-after : (v j : ℕ)
+      → ((after N l w (fill v j)) .cellTicket ≡ upd (l .cellTicket) v (l .tail))
+      × ((after N l w (fill v j)) .cellTask ≡ upd (l .cellTask) v j)
+  fill-after = Changes.fill-after N l w
+
+  -- all others leave the cells as they are
+  pub cells-after : (op : Op) → fills op ≡ 0
+      → ((after N l w op) .cellTicket ≡ l .cellTicket) × ((after N l w op) .cellTask ≡ l .cellTask)
+  cells-after = Changes.cells-after N l w
+
+  -- one cell: it is filled, or stays as it is
+  pub cell-after : (op : Op) (v : ℕ)
+      → ((j : ℕ) × (op ≡ fill v j)) ⊎ (((after N l w op) .cellTicket v ≡ l .cellTicket v) × ((after N l w op) .cellTask v ≡ l .cellTask v))
+  cell-after = Changes.cell-after N l w
+
+  -- what neither hands over nor registers leaves the front waiter
+  pub front-after : (op : Op) → handsOver op ≡ 0 → registers op ≡ 0 → front N (after N l w op) ≡ front N l
+  front-after = Changes.front-kept N l w
+
+-- an operation takes a ticket or hands over, once, or neither
+pub at-most-one : (op : Op) → takes op + handsOver op ≤ 1
+at-most-one = Changes.at-most-one
 
 -- ---- histories
 
+pub hand-overs-none : handOvers [] ≡ 0
+hand-overs-none = Histories.hand-overs-none
+
+pub hand-overs-more : (m : Move) (ms : List Move) → handOvers (m ∷ ms) ≡ handsOver (m .op) + handOvers ms
+hand-overs-more = Histories.hand-overs-more
+
+pub hand-overs-append : (xs ys : List Move) → handOvers (xs ++ ys) ≡ handOvers xs + handOvers ys
+hand-overs-append = Histories.hand-overs-append
+
 module _ {W N : ℕ} {l : Lock} {st : ℕ → Stand} where
-  pub run-keeps : Inv W N l st → {ms : List Move} {now : Lock} {at : ℕ → Stand} → Run W N l st ms now at → Inv W N now at
-  run-keeps i still = i
-  run-keeps i (then r w h op c) = keeps (run-keeps i r) w h op c
+  -- a run with an operation before it
+  pub run-first : (w : ℕ) → w < W → (op : Op) → Can N l (st w) w op → {ms : List Move} {now : Lock} {at : ℕ → Stand}
+      → Run W N (after N l w op) (upd st w (standAfter l op)) ms now at → Run W N l st (ms ++ record { by = w; op = op } ∷ []) now at
+  run-first = Histories.run-first
 
-  pub run-tail : {ms : List Move} {now : Lock} {at : ℕ → Stand} → Run W N l st ms now at → now .tail ≡ l .tail + handOvers ms
-  unfolding handOvers
-  run-tail still = omega arith
-  run-tail (then {now = now} r w h op c) = omega (arith, run-tail r, tail-after N now w op)
+  module _ {ms : List Move} {now : Lock} {at : ℕ → Stand} (run : Run W N l st ms now at) where
+    pub run-tail : now .tail ≡ l .tail + handOvers ms
+    run-tail = Histories.run-tail run
 
-  pub run-head : {ms : List Move} {now : Lock} {at : ℕ → Stand} → Run W N l st ms now at → now .head ≤ l .head + length ms
-  run-head still = omega arith
-  run-head (then {now = now} r w h op c) = omega (arith, run-head r, head-after N now w op)
+    pub run-head : now .head ≤ l .head + length ms
+    run-head = Histories.run-head run
 
-  -- a worker waits with a ticket: after any further moves its turn has come exactly when these have handed over as often as its distance says
-  pub turn-exactly : Inv W N l st → (w t : ℕ) → st w ≡ waiting t → {ms : List Move} {now : Lock} {at : ℕ → Stand} → Run W N l st ms now at
+  pub run-keeps : Kept W N l st → {ms : List Move} {now : Lock} {at : ℕ → Stand} → Run W N l st ms now at → Kept W N now at
+  run-keeps k run = record { inv = Histories.run-keeps (k .inv) run }
+
+  -- who waits with a ticket: after any further moves its turn has come exactly when these have handed over as often as its distance says
+  pub turn-exactly : Kept W N l st → (w t : ℕ) → st w ≡ waiting t → {ms : List Move} {now : Lock} {at : ℕ → Stand} → Run W N l st ms now at
       → (turn N now t ≡ true) ↔ (distance l t ≤ handOvers ms)
-  turn-exactly i w t e {ms} r = turn-hands (run-keeps i r) t (l .tail) (handOvers ms) ((ticket-given i w t (inr e)) .0) (run-tail r)
+  turn-exactly k = Histories.turn-exactly (k .inv)
 
   -- a task that lies in a waiting worker's cell lies there still, or that worker has received it
-  pub cell-reaches : Inv W N l st → (v t j : ℕ) → InCell l st v t j → {ms : List Move} {now : Lock} {at : ℕ → Stand} → Run W N l st ms now at
+  pub cell-reaches : Kept W N l st → (v t j : ℕ) → InCell l st v t j → {ms : List Move} {now : Lock} {at : ℕ → Stand}
+      → Run W N l st ms now at
       → List·Memᴰ (record { by = v; op = receive t j }) ms ⊎ InCell now at v t j
-  cell-reaches i v t j h still = inr h
-  cell-reaches i v t j h (then r w k op c) =
-      ⊎-elim (λ m. inl (List·Memᴰ·tail m))
-      (λ b. ⊎-elim (λ (a, e). inl (List·Memᴰ·head (cc))) inr (cell-stays (run-keeps i r) w v t j b op c))
-      (cell-reaches i v t j h r)
+  cell-reaches k = Histories.cell-reaches (k .inv)
 
--- every history keeps the promise
-pub always : {W N : ℕ} → 0 < W → W ≤ N → {ms : List Move} {l : Lock} {st : ℕ → Stand} → History W N ms l st → Inv W N l st
-always {W} {N} any fits r = run-keeps (starts W N any fits) r
+module _ {W N : ℕ} (any : 0 < W) (fits : W ≤ N) {ms : List Move} {l : Lock} {st : ℕ → Stand} (history : History W N ms l st) where
+  -- every history keeps the promise
+  pub always : Kept W N l st
+  always = record { inv = Histories.always any fits history }
 
--- head, tail and registrations stay below what the ring's size, the number of moves and the number of workers come to
-pub no-wrap : {W N : ℕ} → 0 < W → W ≤ N → {ms : List Move} {l : Lock} {st : ℕ → Stand} → History W N ms l st
-    → (l .head ≤ N + length ms) × (l .tail ≤ suc (N + length ms)) × ((w t : ℕ) → Holds (st w) t → lock.join t w < N + length ms + W)
-unfolding start
-no-wrap {N = N} any fits {ms} {l} r =
-    let i = always any fits r in
-    let h : l .head ≤ N + length ms = run-head r in
-    (h, omega (arith, ends i), λ w t q. omega (arith, ticket-given i w t q, holder-below i w t q))
+  -- head, tail and registrations stay below what the ring's size, the number of moves and the number of workers come to
+  pub no-wrap : (l .head ≤ N + length ms) × (l .tail ≤ suc (N + length ms)) × ((w t : ℕ) → Holds (st w) t → join t w < N + length ms + W)
+  no-wrap = Histories.no-wrap any fits history

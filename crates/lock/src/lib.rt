@@ -1,10 +1,12 @@
-// The delegation ticket lock over lent arrays; `slots` is the ring's size. `specs/Lock.antt` says what the lock is. `specs/Arrays.antt` says
-// how it lies in the arrays, and has a law for each function that changes it, by which what the contract says is what the definition says.
+// The delegation ticket lock over lent arrays; `slots` is the ring's size. `specs/Lock.antt` says what the lock is, `specs/Arrays.antt` how
+// it lies in the arrays, `specs/Promise.antt` what a caller may count on. A contract says what the lent arrays and the ends come to, and
+// which operation of the lock that is, whatever lies in the arrays that the function is not lent.
 ghost use mathlib.Core.Path.{_≡_};
 ghost use mathlib.Core.List.{List};
 ghost use Prim.Native.Nat.{ℕ, _+_, _%_, _^_, _≤_, _<_};
 ghost use lib.ListN.{length, set, replicate};
-ghost use Rattle.lock.specs.Lock.{join, workerIn, isFree, look as looks, front};
+ghost use Rattle.lock.specs.Lock as L;
+ghost use Rattle.lock.specs.Lock.{EMPTY, join, workerIn};
 ghost use Rattle.lock.specs.Arrays.{lockOf};
 ghost use Rattle.lock.specs.Answers.{seen, waiter};
 
@@ -50,6 +52,9 @@ fn worker_in(registration: u64, ticket: Ticket) -> Worker
     Worker(registration - ticket.0)
 }
 
+// What a registration or a cell holds before it is written.
+const EMPTY: u64 = 0;
+
 // The slot of a ticket.
 fn slot(ticket: Ticket, slots: u64) -> usize
     requires { ⌜ 0 < slots ⌝ }
@@ -68,7 +73,7 @@ fn set_all(a: &mut [u64], v: u64)
     }
 }
 
-// Sets the start values, in all of each array. Law: `start-lock`.
+// Sets the start values, in all of each array.
 pub fn start(
     slots: u64,
     wait: &mut [u64],
@@ -79,24 +84,29 @@ pub fn start(
     requires { ⌜ slots + 1 < 2 ^ 64 ⌝ }
     ensures ends { λ r. ⌜ (r .head .0 ≡ slots) × (r .tail .0 ≡ slots + 1) ⌝ }
     ensures waits { λ _. ⌜ now (wait .exit) ≡ replicate (length (now (wait .entry))) slots ⌝ }
-    ensures others { λ _. ⌜ (now (registrations .exit) ≡ replicate (length (now (registrations .entry))) 0)
-        × (now («cell_tickets» .exit) ≡ replicate (length (now («cell_tickets» .entry))) 0)
-        × (now («cell_tasks» .exit) ≡ replicate (length (now («cell_tasks» .entry))) 0) ⌝ }
+    ensures others { λ _. ⌜ (now (registrations .exit) ≡ replicate (length (now (registrations .entry))) EMPTY)
+        × (now («cell_tickets» .exit) ≡ replicate (length (now («cell_tickets» .entry))) EMPTY)
+        × (now («cell_tasks» .exit) ≡ replicate (length (now («cell_tasks» .entry))) EMPTY) ⌝ }
+    ensures lock { λ r. ⌜ lockOf slots (r .head .0) (r .tail .0) (now (wait .exit)) (now (registrations .exit))
+        (now («cell_tickets» .exit)) (now («cell_tasks» .exit)) ≡ L.start slots ⌝ }
 {
     set_all(wait, slots);
-    set_all(registrations, 0);
-    set_all(cell_tickets, 0);
-    set_all(cell_tasks, 0);
+    set_all(registrations, EMPTY);
+    set_all(cell_tickets, EMPTY);
+    set_all(cell_tasks, EMPTY);
     Ends {
         head: Ticket(slots),
         tail: Ticket(slots + 1),
     }
 }
 
-// Gives the head and raises it. Law: `take-lock`.
+// Gives the head and raises it.
 pub fn take_ticket(ends: Ends) -> Taken
     requires { ⌜ ends .head .0 + 1 < 2 ^ 64 ⌝ }
-    ensures { λ r. ⌜ (r .ticket .0 ≡ ends .head .0) × (r .ends .head .0 ≡ ends .head .0 + 1) × (r .ends .tail .0 ≡ ends .tail .0) ⌝ }
+    ensures ends { λ r. ⌜ (r .ticket .0 ≡ ends .head .0) × (r .ends .head .0 ≡ ends .head .0 + 1) × (r .ends .tail .0 ≡ ends .tail .0) ⌝ }
+    ensures lock { λ r. ⌜ ((slots : ℕ) (wait registrations tickets tasks : List ℕ) →
+        lockOf slots (r .ends .head .0) (r .ends .tail .0) wait registrations tickets tasks
+        ≡ L.takeTicket (lockOf slots (ends .head .0) (ends .tail .0) wait registrations tickets tasks)) ⌝ }
 {
     let ticket = ends.head;
     let tail = ends.tail;
@@ -109,10 +119,14 @@ pub fn take_ticket(ends: Ends) -> Taken
     }
 }
 
-// Writes the registration into the ticket's slot. Law: `register-lock`.
+// Writes the registration into the ticket's slot.
 pub fn register(slots: u64, registrations: &mut [u64], ticket: Ticket, worker: Worker)
     requires { ⌜ (0 < slots) × (slots ≤ length (now registrations)) × (ticket .0 + worker .0 < 2 ^ 64) ⌝ }
-    ensures { λ _. ⌜ now (registrations .exit) ≡ set (now (registrations .entry)) (ticket .0 % slots) (join (ticket .0) (worker .0)) ⌝ }
+    ensures registrations { λ _. ⌜ now (registrations .exit)
+        ≡ set (now (registrations .entry)) (ticket .0 % slots) (join (ticket .0) (worker .0)) ⌝ }
+    ensures lock { λ _. ⌜ ((head tail : ℕ) (wait tickets tasks : List ℕ) →
+        lockOf slots head tail wait (now (registrations .exit)) tickets tasks
+        ≡ L.register slots (lockOf slots head tail wait (now (registrations .entry)) tickets tasks) (ticket .0) (worker .0)) ⌝ }
 {
     let at = slot(ticket, slots);
     registrations[at] = joined(ticket, worker);
@@ -127,9 +141,12 @@ pub fn look(
     ticket: Ticket,
     worker: Worker,
 ) -> Looked
-    requires { ⌜ (0 < slots) × (slots ≤ length (now wait)) × (worker .0 < length (now «cell_tickets»)) × (worker .0 < length (now «cell_tasks»)) ⌝ }
+    requires { ⌜ (0 < slots) × (slots ≤ length (now wait))
+        × (worker .0 < length (now «cell_tickets»)) × (worker .0 < length (now «cell_tasks»)) ⌝ }
     ensures { λ r. ⌜ ((head tail : ℕ) (registrations : List ℕ) →
-        seen r ≡ looks slots (lockOf slots head tail (now (wait .entry)) registrations (now («cell_tickets» .entry)) (now («cell_tasks» .entry))) (ticket .0) (worker .0)) ⌝ }
+        seen r ≡ L.look slots
+        (lockOf slots head tail (now (wait .entry)) registrations (now («cell_tickets» .entry)) (now («cell_tasks» .entry)))
+        (ticket .0) (worker .0)) ⌝ }
 {
     let t = ticket.0;
     let at = slot(ticket, slots);
@@ -144,11 +161,14 @@ pub fn look(
     }
 }
 
-// Writes the tail into its wait slot and raises it. Law: `hand-over-lock`.
+// Writes the tail into its wait slot and raises it.
 pub fn hand_over(slots: u64, ends: Ends, wait: &mut [u64]) -> Ends
     requires { ⌜ (0 < slots) × (slots ≤ length (now wait)) × (ends .tail .0 + 1 < 2 ^ 64) ⌝ }
     ensures ends { λ r. ⌜ (r .head .0 ≡ ends .head .0) × (r .tail .0 ≡ ends .tail .0 + 1) ⌝ }
     ensures waits { λ _. ⌜ now (wait .exit) ≡ set (now (wait .entry)) (ends .tail .0 % slots) (ends .tail .0) ⌝ }
+    ensures lock { λ r. ⌜ ((registrations tickets tasks : List ℕ) →
+        lockOf slots (r .head .0) (r .tail .0) (now (wait .exit)) registrations tickets tasks
+        ≡ L.handOver slots (lockOf slots (ends .head .0) (ends .tail .0) (now (wait .entry)) registrations tickets tasks)) ⌝ }
 {
     let head = ends.head;
     let tail = ends.tail;
@@ -164,7 +184,7 @@ pub fn hand_over(slots: u64, ends: Ends, wait: &mut [u64]) -> Ends
 pub fn front_waiter(slots: u64, ends: Ends, registrations: &[u64]) -> Front
     requires { ⌜ (0 < slots) × (slots ≤ length (now registrations)) ⌝ }
     ensures { λ r. ⌜ ((wait tickets tasks : List ℕ) →
-        waiter r ≡ front slots (lockOf slots (ends .head .0) (ends .tail .0) wait (now (registrations .entry)) tickets tasks)) ⌝ }
+        waiter r ≡ L.front slots (lockOf slots (ends .head .0) (ends .tail .0) wait (now (registrations .entry)) tickets tasks)) ⌝ }
 {
     let tail = ends.tail;
     let t = tail.0;
@@ -179,7 +199,7 @@ pub fn front_waiter(slots: u64, ends: Ends, registrations: &[u64]) -> Front
 // Whether the tail is one past the head.
 pub fn is_free(ends: Ends) -> bool
     ensures { λ r. ⌜ ((slots : ℕ) (wait registrations tickets tasks : List ℕ) →
-        r ≡ isFree (lockOf slots (ends .head .0) (ends .tail .0) wait registrations tickets tasks)) ⌝ }
+        r ≡ L.isFree (lockOf slots (ends .head .0) (ends .tail .0) wait registrations tickets tasks)) ⌝ }
 {
     let head = ends.head.0;
     let tail = ends.tail.0;
@@ -189,11 +209,15 @@ pub fn is_free(ends: Ends) -> bool
     false
 }
 
-// Puts a task into a worker's cell, with the tail as its ticket. Law: `fill-lock`.
+// Puts a task into a worker's cell, with the tail as its ticket.
 pub fn fill(ends: Ends, cell_tickets: &mut [u64], cell_tasks: &mut [u64], worker: Worker, task: u64)
     requires { ⌜ (worker .0 < length (now «cell_tickets»)) × (worker .0 < length (now «cell_tasks»)) ⌝ }
     ensures tickets { λ _. ⌜ now («cell_tickets» .exit) ≡ set (now («cell_tickets» .entry)) (worker .0) (ends .tail .0) ⌝ }
     ensures tasks { λ _. ⌜ now («cell_tasks» .exit) ≡ set (now («cell_tasks» .entry)) (worker .0) task ⌝ }
+    ensures lock { λ _. ⌜ ((slots : ℕ) (wait registrations : List ℕ) →
+        lockOf slots (ends .head .0) (ends .tail .0) wait registrations (now («cell_tickets» .exit)) (now («cell_tasks» .exit))
+        ≡ L.fill (lockOf slots (ends .head .0) (ends .tail .0) wait registrations (now («cell_tickets» .entry)) (now («cell_tasks» .entry)))
+        (worker .0) task) ⌝ }
 {
     let w = worker.0 as usize;
     cell_tickets[w] = ends.tail.0;

@@ -2,7 +2,7 @@
 use Prim.Native.Nat.{ℕ, _+_, _*_}
 use lib.ListN.{length}
 use Rattle.runs.specs.Sums.{sum}
-use Rattle.machine.specs.Accesses.{accesses, taskAt}
+use Rattle.tasks.specs.Accesses.{accesses, taskAt}
 use Rattle.machine.specs.State.{Setup}
 
 module _ (c : Setup) where

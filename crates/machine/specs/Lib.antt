@@ -1,5 +1,3 @@
-pub mod Accesses
-pub mod Flags
 pub mod State
 pub mod Event
 pub mod Step
@@ -7,9 +5,10 @@ pub mod Trace
 pub mod Whereabouts
 pub mod View
 pub mod Events
-pub mod Played
 pub mod Figures
+pub mod Computing
 pub mod Safety
 pub mod Progress
-pub mod Ranges
+pub mod Played
 pub mod WholeRuns
+pub mod Ranges

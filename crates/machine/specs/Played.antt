@@ -4,15 +4,14 @@ use mathlib.Core.Path.{_≡_, refl}
 use mathlib.Core.Bool.{true, false}
 use mathlib.Core.List.{List, [], _∷_, _++_, map}
 use lib.ListN.{length, replicate}
-use Rattle.runs.specs.Update.{upd}
-use Rattle.lock.specs.Lock as L
 use Rattle.plan.specs.Plan.{Access, Task}
 use Rattle.plan.specs.Orders.{numbersFrom}
-use Rattle.machine.specs.Accesses.{lastBelow, firstFrom, accesses, taskOf, first, reader, sameAddress, prev, next}
-use Rattle.machine.specs.Flags.{flagNumber, passesRead, passesWrite, satisfied}
-use Rattle.machine.specs.State.{Setup, Status, waiting, ready, held, running, over, State, start}
-use Rattle.machine.specs.Event.{creating, idling, servingOrTaking, standingAt}
-use Rattle.machine.specs.Step.{lowered, linkMessage, passed, doneMessages, nextDrain, step, everyBelow, finished, pick, after}
+use Rattle.tasks.specs.Accesses.{accesses}
+use Rattle.tasks.specs.Flags.{flagNumber}
+use Rattle.tasks.specs.Tasks.{Status, waiting, ready, held, running, over}
+use Rattle.machine.specs.State.{Setup, State}
+use Rattle.machine.specs.Step.{after}
+use Rattle.machine.specs.Computing.{computing}
 
 -- a task of no cost
 abbrev pub free : List Access → Task
@@ -36,10 +35,10 @@ pub record Moment : Type 0 where
 
 module _ (c : Setup) (s : State) where
   unfoldable pub statusesOf : List Status
-  statusesOf = map (s .status) (numbersFrom 0 (length (c .tasks)))
+  statusesOf = map (s .tasks .status) (numbersFrom 0 (length (c .tasks)))
 
   unfoldable pub flagsOf : List ℕ
-  flagsOf = map (λ a. flagNumber (s .flags a)) (numbersFrom 0 (length (accesses (c .tasks))))
+  flagsOf = map (λ a. flagNumber (s .tasks .flags a)) (numbersFrom 0 (length (accesses (c .tasks))))
 
 abbrev pub Matches : List Moment → Type 0
 Matches [] = Unit {0}
@@ -58,11 +57,26 @@ two = with 2 (free [] ∷ free [] ∷ [])
 abbrev pub moments : List Moment
 moments =
     -- a reader runs, and a later writer waits: READ has come to it, WRITE has not
-    record { setup = with 2 (free (reads 5 ∷ []) ∷ free (writes 5 ∷ []) ∷ []); picks = replicate 17 0; statuses = running ∷ waiting ∷ []; flags = 27 ∷ 1 ∷ [] }
+    record {
+      setup = with 2 (free (reads 5 ∷ []) ∷ free (writes 5 ∷ []) ∷ []);
+      picks = replicate 17 0;
+      statuses = running ∷ waiting ∷ [];
+      flags = 27 ∷ 1 ∷ [];
+    }
     -- both are over: each flag has come once
-    ∷ record { setup = with 2 (free (reads 5 ∷ []) ∷ free (writes 5 ∷ []) ∷ []); picks = replicate 60 0; statuses = over ∷ over ∷ []; flags = 63 ∷ 7 ∷ [] }
+    ∷ record {
+      setup = with 2 (free (reads 5 ∷ []) ∷ free (writes 5 ∷ []) ∷ []);
+      picks = replicate 60 0;
+      statuses = over ∷ over ∷ [];
+      flags = 63 ∷ 7 ∷ [];
+    }
     -- a writer runs, and nothing has come to a later reader
-    ∷ record { setup = with 2 (free (writes 5 ∷ []) ∷ free (reads 5 ∷ []) ∷ []); picks = replicate 15 0; statuses = running ∷ waiting ∷ []; flags = 11 ∷ 0 ∷ [] }
+    ∷ record {
+      setup = with 2 (free (writes 5 ∷ []) ∷ free (reads 5 ∷ []) ∷ []);
+      picks = replicate 15 0;
+      statuses = running ∷ waiting ∷ [];
+      flags = 11 ∷ 0 ∷ [];
+    }
     -- a look between the filling of the cell and the hand-over changes nothing, and one after it receives the task
     ∷ record { setup = two; picks = untilFilled ++ 1 ∷ []; statuses = held ∷ ready ∷ []; flags = [] }
     ∷ record { setup = two; picks = untilFilled ++ 1 ∷ 0 ∷ 1 ∷ []; statuses = running ∷ ready ∷ []; flags = [] }
@@ -73,5 +87,5 @@ moments =
     ∷ []
 
 pub played : Matches moments
-unfolding upd L.start L.front L.look lastBelow firstFrom accesses taskOf first reader sameAddress prev next passesRead passesWrite satisfied start creating idling servingOrTaking standingAt lowered linkMessage passed doneMessages nextDrain step everyBelow finished pick after statusesOf flagsOf numbersFrom
+unfolding computing statusesOf flagsOf
 played = (refl, refl, (refl, refl, (refl, refl, (refl, refl, (refl, refl, (refl, refl, (refl, refl, tt)))))))

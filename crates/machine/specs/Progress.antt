@@ -1,8 +1,6 @@
 -- Every run moves.
 pub mod Leading
 pub mod Waiting
-pub mod Work
-pub mod TaskWork
 pub mod Quiet
 pub mod Creating
 pub mod Helpful

@@ -1,137 +1,123 @@
--- What each event makes of the state, one pick, and the state after a list of picks.
-use Prim.Native.Nat.{ℕ, zero, suc, _-_}
-use mathlib.Core.Bool.{Bool, true, false, not, _&&_}
-use mathlib.Core.List.{List, [], _∷_, _++_, map}
+-- What each event is to the lock, to the tasks and to the device; one pick, and the state after a list of picks.
+use Prim.Native.Nat.{ℕ, suc}
+use mathlib.Core.Bool.{Bool, true, false}
+use mathlib.Core.List.{List, [], _∷_, _++_}
 use mathlib.Core.Option.{Option, none, some}
-use lib.ListN.{length}
-use lib.Dec.{eqb, ltb}
+use lib.Dec.{ltb}
+use Rattle.runs.specs.Update.{upd}
 use Rattle.runs.specs.Picks.{run}
+use Rattle.runs.specs.Traces as Traces
 use Rattle.lock.specs.Lock as L
-use Rattle.plan.specs.Orders.{numbersFrom}
-use Rattle.machine.specs.Accesses.{taskAt, taskOf, first, reader, prev, next}
-use Rattle.machine.specs.Flags.{Flags, granting, DONE, NEXT, sent, with, passesRead, passesWrite, satisfied}
-use Rattle.machine.specs.State.{Setup, Message, Purpose, forServing, forAdding, Place, idle, notifying, trying, registering, looking, draining, serving, handing, leaving, working, Status, new, waiting, ready, held, running, over, opening, linking, State, start, withLock, withPlace, withQueue, withMail, withAdds, withReadyList, withFlags, withCount, withStatus, withCreation, received, ended, picked}
-use Rattle.machine.specs.Event.{Event, notifies, delivers, pushes, findsFull, triesAndOwns, triesInVain, opens, links, closes, takesTicket, registers, waits, receives, owns, drains, fills, takes, takesNone, handsOver, leaves, works, ends, event}
+use Rattle.lock.specs.History as LH
+use Rattle.tasks.specs.History as TH
+use Rattle.tasks.specs.Playing as P
+use Rattle.machine.specs.State.{Setup, Purpose, forServing, forAdding, Place, idle, trying, registering, looking, draining, serving, handing, leaving, State, start, picked}
+use Rattle.machine.specs.Event.{Event, minds, pushes, findsFull, triesAndOwns, triesInVain, takesTicket, registers, waits, receives, owns, drains, fills, takes, takesNone, handsOver, leaves, event}
 
--- a message without sender
-abbrev pub plain : ℕ → Flags → Message
-plain a f = record { to = a; flags = f; sender = none }
+-- what an event is to the lock: one operation at the most
+abbrev pub lockOp : Event → Option LH.Op
+lockOp (minds d) = none
+lockOp (pushes i is) = none
+lockOp findsFull = none
+lockOp triesAndOwns = some LH.try
+lockOp triesInVain = none
+lockOp takesTicket = some LH.take
+lockOp (registers t) = some (LH.register t)
+lockOp waits = none
+lockOp (receives t i) = some (LH.receive t i)
+lockOp (owns t) = some (LH.own t)
+lockOp (drains p k) = none
+lockOp (fills n v i is) = some (LH.fill v i)
+lockOp (takes i is) = none
+lockOp takesNone = none
+lockOp (handsOver n) = some LH.pass
+lockOp leaves = some LH.leave
 
--- task i's count falls by x; the worker that brings it to 0 has the task to add
-unfoldable pub lowered : State → ℕ → ℕ → ℕ → State
-lowered s w i x =
-    elim (ltb 0 (s .count i) && eqb (s .count i - x) 0) [
-      | true ↦ withAdds (withStatus (withCount s i 0) i ready) w (s .adds w ++ i ∷ [])
-      | false ↦ withCount s i (s .count i - x)
-    ]
+-- what it is to the tasks: one operation at the most
+abbrev pub taskOp : Event → Option TH.Op
+taskOp (minds d) = some (TH.minds d)
+taskOp (pushes i is) = some (TH.gives i is)
+taskOp findsFull = none
+taskOp triesAndOwns = none
+taskOp triesInVain = none
+taskOp takesTicket = none
+taskOp (registers t) = none
+taskOp waits = none
+taskOp (receives t i) = some (TH.receives i)
+taskOp (owns t) = none
+taskOp (drains p k) = none
+taskOp (fills n v i is) = some (TH.holds i)
+taskOp (takes i is) = some (TH.takes i)
+taskOp takesNone = none
+taskOp (handsOver n) = none
+taskOp leaves = none
+
+-- what it is to the device: where the worker goes, and what the queues and the ready list become
+pub record Effect : Type 0 where
+  pub place : Place
+  pub queue : ℕ → List ℕ
+  pub readyList : List ℕ
 
 module _ (c : Setup) where
-  -- what linking access a causes: the first to an address is sent READ and WRITE, else the last before it is sent NEXT
-  unfoldable pub linkMessage : ℕ → Message
-  linkMessage a = elim (prev (c .tasks) a) [ none ↦ plain a (granting 1 1) | some b ↦ plain b NEXT ]
-
-  -- access a's flags become f, from e: what passes on for the first time goes to its successor as one message
-  unfoldable pub passed : ℕ → Flags → Flags → List Message
-  passed a e f =
-      let read = passesRead (reader (c .tasks) a) f - passesRead (reader (c .tasks) a) e in
-      let write = passesWrite f - passesWrite e in
-      elim (eqb read 0 && eqb write 0) [ true ↦ [] | false ↦ record { to = next (c .tasks) a; flags = granting read write; sender = some a } ∷ [] ]
-
-  -- a DONE message for each access of task i
-  unfoldable pub doneMessages : ℕ → List Message
-  doneMessages i = map (λ a. plain a DONE) (numbersFrom (first (c .tasks) i) (length (taskAt (c .tasks) i .accesses)))
-
-  -- after a delivery: a pass message is followed by the notice to its sender
-  abbrev pub noticeOf : Message → Option ℕ → Place
-  noticeOf m none = idle
-  noticeOf m (some b) = notifying b (m .flags)
-
   -- after queue k the next; after the last, by the purpose
   abbrev pub afterDraining : Purpose → Place
   afterDraining forServing = serving 0
-  afterDraining forAdding = leaving none
+  afterDraining forAdding = leaving
 
   unfoldable pub nextDrain : Purpose → ℕ → Place
   nextDrain p k = elim (ltb (suc k) (c .workers)) [ true ↦ draining p (suc k) | false ↦ afterDraining p ]
 
-  abbrev pub startWork : ℕ → Place
-  startWork i = working i (taskAt (c .tasks) i .cost)
+  module _ (s : State) where
+    abbrev goes : Place → Effect
+    goes p = record { place = p; queue = s .queue; readyList = s .readyList }
 
-  abbrev pub afterLeaving : Option ℕ → Place
-  afterLeaving none = idle
-  afterLeaving (some i) = startWork i
+    -- worker w's event
+    abbrev pub effect : ℕ → Event → Effect
+    effect w (minds d) = goes idle
+    effect w (pushes i is) = record { place = idle; queue = upd (s .queue) w (s .queue w ++ i ∷ []); readyList = s .readyList }
+    effect w findsFull = goes trying
+    effect w triesAndOwns = goes (draining forAdding 0)
+    effect w triesInVain = goes idle
+    effect w takesTicket = goes (registering (s .lock .head))
+    effect w (registers t) = goes (looking t)
+    effect w waits = goes (s .place w)
+    effect w (receives t i) = goes idle
+    effect w (owns t) = goes (draining forServing 0)
+    effect w (drains p k) = record { place = nextDrain p k; queue = upd (s .queue) k []; readyList = s .readyList ++ s .queue k }
+    effect w (fills n v i is) = record { place = handing n; queue = s .queue; readyList = is }
+    effect w (takes i is) = record { place = leaving; queue = s .queue; readyList = is }
+    effect w takesNone = goes leaving
+    effect w (handsOver n) = goes (serving (suc n))
+    effect w leaves = goes idle
 
-  -- worker w's event in state s
+  abbrev pub lockAfter : L.Lock → ℕ → Option LH.Op → L.Lock
+  lockAfter l w none = l
+  lockAfter l w (some op) = LH.after (c .slots) l w op
+
+  -- a receipt and an ending note the number of the pick
   abbrev pub apply : State → ℕ → Event → State
-  apply s w (notifies a f) = withPlace (withFlags s a (with (s .flags a) (sent f))) w idle
-  apply s w (delivers m ms) =
-      let a = m .to in
-      let e = s .flags a in
-      let f = with e (m .flags) in
-      lowered (withPlace (withMail (withFlags s a f) w (ms ++ passed a e f)) w (noticeOf m (m .sender)))
-      w (taskOf (c .tasks) a) (satisfied (reader (c .tasks) a) f - satisfied (reader (c .tasks) a) e)
-  apply s w (pushes i is) = withAdds (withQueue s w (s .queue w ++ i ∷ [])) w is
-  apply s w findsFull = withPlace s w trying
-  apply s w triesAndOwns = withPlace (withLock s (L.takeTicket (s .lock))) w (draining forAdding 0)
-  apply s w triesInVain = withPlace s w idle
-  apply s w (opens i) = withCreation (withStatus (withCount s i (suc (length (taskAt (c .tasks) i .accesses)))) i waiting) (linking i (first (c .tasks) i))
-  apply s w (links i a) = withCreation (withMail s w (s .mail w ++ linkMessage a ∷ [])) (linking i (suc a))
-  apply s w (closes i) = lowered (withCreation s (opening (suc i))) w i 1
-  apply s w takesTicket = withPlace (withLock s (L.takeTicket (s .lock))) w (registering (s .lock .head))
-  apply s w (registers t) = withPlace (withLock s (L.register (c .slots) (s .lock) t w)) w (looking t)
-  apply s w waits = s
-  apply s w (receives i) = withPlace (received s w i) w (startWork i)
-  apply s w owns = withPlace s w (draining forServing 0)
-  apply s w (drains p k) = withPlace (withQueue (withReadyList s (s .readyList ++ s .queue k)) k []) w (nextDrain p k)
-  apply s w (fills n v i is) = withPlace (withStatus (withReadyList (withLock s (L.fill (s .lock) v i)) is) i held) w (handing n)
-  apply s w (takes i is) = withPlace (received (withReadyList s is) w i) w (leaving (some i))
-  apply s w takesNone = withPlace s w (leaving none)
-  apply s w (handsOver n) = withPlace (withLock s (L.handOver (c .slots) (s .lock))) w (serving (suc n))
-  apply s w (leaves o) = withPlace (withLock s (L.handOver (c .slots) (s .lock))) w (afterLeaving o)
-  apply s w (works i n) = withPlace s w (working i n)
-  apply s w (ends i) = withPlace (withMail (ended s i) w (s .mail w ++ doneMessages i)) w idle
+  apply s w e =
+      record {
+        lock = lockAfter (s .lock) w (lockOp e);
+        tasks = P.tasksAfter (c .tasks) (s .picks) (s .tasks) w (taskOp e);
+        stand = P.standsAfter (c .tasks) (s .stand) w (taskOp e);
+        place = upd (s .place) w (effect s w e .place);
+        queue = effect s w e .queue;
+        readyList = effect s w e .readyList;
+        picks = s .picks;
+      }
 
   -- one pick of worker w: the pick is counted, and w does what it does where it stands
   unfoldable pub step : State → ℕ → State
   step s w = apply (picked s) w (event c s w)
 
--- ---- finished, and whole lists of picks
-
--- a test passed by each number below n
-unfoldable pub everyBelow : ℕ → (ℕ → Bool) → Bool
-everyBelow zero test = true
-everyBelow (suc n) test = test n && everyBelow n test
-
-abbrev pub isOver : Status → Bool
-isOver new = false
-isOver waiting = false
-isOver ready = false
-isOver held = false
-isOver running = false
-isOver over = true
-
-abbrev pub hasNotice : Place → Bool
-hasNotice idle = false
-hasNotice (notifying a f) = true
-hasNotice trying = false
-hasNotice (registering t) = false
-hasNotice (looking t) = false
-hasNotice (draining p k) = false
-hasNotice (serving n) = false
-hasNotice (handing n) = false
-hasNotice (leaving o) = false
-hasNotice (working i n) = false
-
-module _ (c : Setup) where
   -- all tasks are over and no message or notice is pending
-  unfoldable pub finished : State → Bool
-  finished s =
-      everyBelow (length (c .tasks)) (λ i. isOver (s .status i))
-      && everyBelow (c .workers) (λ w. eqb (length (s .mail w)) 0 && not (hasNotice (s .place w)))
+  abbrev pub finished : State → Bool
+  finished s = P.finished (c .workers) (c .tasks) (s .tasks) (s .stand)
 
   -- once the state is finished no pick is taken
-  unfoldable pub pick : State → ℕ → State
-  pick s w = elim (finished s) [ true ↦ s | false ↦ step c s w ]
+  abbrev pub pick : State → ℕ → State
+  pick = Traces.pick finished step
 
   -- the state after a list of picks from a fresh start
   unfoldable pub after : List ℕ → State

@@ -1,25 +1,27 @@
 -- Demand 3, one claim about whole lists of picks: every list of workers below W from a fresh start, the empty one too.
-use Prim.Native.Nat.{ℕ, zero, suc, _+_, _≤_, _<_}
+use Prim.Native.Nat.{ℕ, _+_, _≤_, _<_}
 use native.Mathlib.Omega.{arith}
-use mathlib.Core.Path.{_≡_, refl, sym, ap, subst, _∙_}
-use mathlib.Core.Logic.{_⊎_, ⊎-elim, _≢_, _↔_}
-use mathlib.Core.Bool.{Bool, true, false, _&&_}
+use mathlib.Core.Path.{_≡_, sym, ap, subst, _∙_}
+use mathlib.Core.Logic.{_⊎_, _↔_}
+use mathlib.Core.Bool.{true, false}
 use mathlib.Core.List.{List, _∷_, _++_}
 use mathlib.Core.Option.{some}
 use lib.ListN.{length, drop, take, getElem?}
 use lib.Seq.{drop-append-add, take-append-seam}
-use Rattle.runs.specs.Update.{same, upd-same, clash}
+use Rattle.runs.specs.Update.{upd-same}
 use Rattle.runs.specs.Picks.{Picks, Regular, picks-take, picks-drop, regular-drop, run, run-append, Within}
 use Rattle.lock.specs.Lock as L
-use Rattle.machine.specs.Accesses.{taskAt, conflict}
-use Rattle.machine.specs.State.{Setup, looking, Status, new, waiting, ready, held, running, over, State, start}
+use Rattle.tasks.specs.Accesses.{taskAt, conflict}
+use Rattle.tasks.specs.Tasks.{ready, held, running, over, pastWaiting}
+use Rattle.tasks.specs.Playing as P
+use Rattle.machine.specs.State.{Setup, looking, State, start}
 use Rattle.machine.specs.Event.{registers, event}
-use Rattle.machine.specs.Step.{step, everyBelow, isOver, finished, pick, after}
+use Rattle.machine.specs.Step.{step, finished, pick, after}
 use Rattle.machine.specs.Figures.{waitingFigure, finishingFigure}
 use Rattle.machine.specs.Trace.{Happening, trace, tally, isReceipt, isEnding, isHandOver}
-use Rattle.machine.specs.Whereabouts.{places, pastWaiting}
+use Rattle.machine.specs.Whereabouts.{places}
 use Rattle.machine.specs.Safety as S
-use Rattle.machine.specs.Safety.Tasks.{drains-below}
+use Rattle.machine.specs.Safety.Device.{drains-below}
 use Rattle.machine.specs.Safety.Invariant.{Playable, Inv, inv-step, inv-after}
 use Rattle.machine.specs.Safety.Traces.{pick-open, run-finished}
 use Rattle.machine.specs.Safety.Turns as T
@@ -43,54 +45,36 @@ distanceOf {t = t} r = L.distance ((registered r) .lock) t
 
 pub record WholeRun (c : Setup) (ws : List ℕ) : Type 0 where
   -- each pick gets the state that the last one left, and once the state is finished the rest of the list isn't taken
-  pub rest-untaken : (us vs : List ℕ) → us ++ vs ≡ ws → (after c ws ≡ run (pick c) (after c us) vs) × (finished c (after c us) ≡ true → after c ws ≡ after c us)
+  pub rest-untaken : (us vs : List ℕ) → us ++ vs ≡ ws
+      → (after c ws ≡ run (pick c) (after c us) vs) × (finished c (after c us) ≡ true → after c ws ≡ after c us)
   -- no task is lost
-  pub none-lost : (i : ℕ) → ((after c ws) .status i ≡ ready) ⊎ ((after c ws) .status i ≡ held) ⊎ ((after c ws) .status i ≡ running) → places c (after c ws) i ≡ 1
+  pub none-lost : (i : ℕ)
+      → ((after c ws) .tasks .status i ≡ ready) ⊎ ((after c ws) .tasks .status i ≡ held) ⊎ ((after c ws) .tasks .status i ≡ running)
+      → places c (after c ws) i ≡ 1
   -- no task is received twice, and its receipt and its ending are by the same worker
   pub received-once : (i : ℕ) → tally (isReceipt i) (trace c (start c) ws) ≤ 1
-  pub same-worker : (i k : ℕ) (h : Happening) → getElem? (trace c (start c) ws) k ≡ some h → 0 < isReceipt i (h .what) + isEnding i (h .what) → h .by ≡ (after c ws) .runner i
+  pub same-worker : (i k : ℕ) (h : Happening) → getElem? (trace c (start c) ws) k ≡ some h
+      → 0 < isReceipt i (h .what) + isEnding i (h .what) → h .by ≡ (after c ws) .tasks .runner i
   -- an earlier task that conflicts with one that is ready, held, run or over is over
-  pub in-order : (i j : ℕ) → i < j → j < length (c .tasks) → conflict (taskAt (c .tasks) i) (taskAt (c .tasks) j) ≡ true → pastWaiting ((after c ws) .status j) ≡ 1 → (after c ws) .status i ≡ over
+  pub in-order : (i j : ℕ) → i < j → j < length (c .tasks) → conflict (taskAt (c .tasks) i) (taskAt (c .tasks) j) ≡ true
+      → pastWaiting ((after c ws) .tasks .status j) ≡ 1 → (after c ws) .tasks .status i ≡ over
   -- a worker that registered at ticket distance d has its turn exactly when at least d hand-overs have come since
-  pub turn : (w t : ℕ) (r : Registers c ws w t) → (L.turn (c .slots) ((after c ws) .lock) t ≡ true) ↔ (distanceOf r ≤ tally isHandOver (trace c (registered r) (r .since)))
-  -- if every B picks in a row include each worker, it is out of the wait within (d (3W + 2) + 1) B picks, unless the run finishes or the list ends first
+  pub turn : (w t : ℕ) (r : Registers c ws w t)
+      → (L.turn (c .slots) ((after c ws) .lock) t ≡ true) ↔ (distanceOf r ≤ tally isHandOver (trace c (registered r) (r .since)))
+  -- if every B picks in a row include each worker, it is out of the wait within (d (3W + 2) + 1) B picks,
+  -- unless the run finishes or the list ends first
   pub waiting : (B : ℕ) → Regular (c .workers) B ws → (w t : ℕ) (r : Registers c ws w t)
       → Within (pick c) (λ s. (finished c s ≡ true) ⊎ OutOfWait c w s) (waitingFigure c B (distanceOf r)) (r .since) (registered r)
       ⊎ (length (r .since) < waitingFigure c B (distanceOf r))
-  -- and T tasks with A accesses and total cost C are finished within B (4W + 8) (7T + 7A + C) picks if the list is that long, each with one receipt and one ending
+  -- and T tasks with A accesses and total cost C are finished within B (4W + 8) (7T + 7A + C) picks if the list is
+  -- that long, each with one receipt and one ending
   pub finishing : (B : ℕ) → Regular (c .workers) B ws → finishingFigure c B ≤ length ws
       → (finished c (after c ws) ≡ true)
       × ((after c ws) .picks ≤ finishingFigure c B)
-      × ((i : ℕ) → i < length (c .tasks) → (tally (isReceipt i) (trace c (start c) ws) ≡ 1) × (tally (isEnding i) (trace c (start c) ws) ≡ 1))
+      × ((i : ℕ) → i < length (c .tasks)
+      → (tally (isReceipt i) (trace c (start c) ws) ≡ 1) × (tally (isEnding i) (trace c (start c) ws) ≡ 1))
   -- no tasks: finished at once
   pub at-once : length (c .tasks) ≡ 0 → finished c (start c) ≡ true
-
--- in a finished state every task is over
-every-at : (n : ℕ) (test : ℕ → Bool) → everyBelow n test ≡ true → (k : ℕ) → k < n → test k ≡ true
-unfolding everyBelow
-every-at zero test e k l = absurd (omega arith)
-every-at (suc n) test e k l = go (test n) refl (everyBelow n test) refl e (every-at n test)
-  where
-    go : (a : Bool) → test n ≡ a → (b : Bool) → everyBelow n test ≡ b → a && b ≡ true → (everyBelow n test ≡ true → (k : ℕ) → k < n → test k ≡ true) → test k ≡ true
-    go true p true q z h = ⊎-elim (λ (d : k ≡ n). ap test d ∙ p) (λ (d : k ≢ n). h q k (omega arith)) (same k n)
-    go true p false q z h = clash (cc)
-    go false p b q z h = clash (cc)
-
-is-over : (x : Status) → isOver x ≡ true → x ≡ over
-is-over new e = clash (cc)
-is-over waiting e = clash (cc)
-is-over ready e = clash (cc)
-is-over held e = clash (cc)
-is-over running e = clash (cc)
-is-over over e = refl
-
-all-over : (c : Setup) (s : State) → finished c s ≡ true → (i : ℕ) → i < length (c .tasks) → s .status i ≡ over
-unfolding finished
-all-over c s e i l = is-over (s .status i) (every-at (length (c .tasks)) (λ i. isOver (s .status i)) (left-of _ _ e) i l)
-  where
-    left-of : (a b : Bool) → a && b ≡ true → a ≡ true
-    left-of true b z = refl
-    left-of false b z = z
 
 module _ (c : Setup) (playable : Playable c) (ws : List ℕ) (p : Picks (c .workers) ws) where
   module _ (w t : ℕ) (r : Registers c ws w t) where
@@ -98,7 +82,9 @@ module _ (c : Setup) (playable : Playable c) (ws : List ℕ) (p : Picks (c .work
     cut n = ap (drop (length (r .before) + n)) (sym (r .whole)) ∙ drop-append-add (r .before) (w ∷ r .since) n
 
     picks-before : Picks (c .workers) (r .before)
-    picks-before = subst (Picks (c .workers)) (ap (take (length (r .before))) (sym (r .whole)) ∙ take-append-seam (r .before) (w ∷ r .since)) (picks-take (c .workers) (length (r .before)) ws p)
+    picks-before =
+        subst (Picks (c .workers)) (ap (take (length (r .before))) (sym (r .whole)) ∙ take-append-seam (r .before) (w ∷ r .since))
+        (picks-take (c .workers) (length (r .before)) ws p)
 
     picks-from : Picks (c .workers) (w ∷ r .since)
     picks-from = subst (Picks (c .workers)) (cut 0) (picks-drop (c .workers) (length (r .before) + 0) ws p)
@@ -116,7 +102,9 @@ module _ (c : Setup) (playable : Playable c) (ws : List ℕ) (p : Picks (c .work
         ∙ ap (λ s. run (pick c) s (r .since)) (pick-open c (after c (r .before)) w (r .taken))
 
     turn-of : (L.turn (c .slots) ((after c ws) .lock) t ≡ true) ↔ (distanceOf r ≤ tally isHandOver (trace c (registered r) (r .since)))
-    turn-of = rw reached (T.turn-exactly c (playable .workers) (playable .ring) (r .before) picks-before w t worker (r .registering) (r .since) picks-since)
+    turn-of =
+        rw reached
+        (T.turn-exactly c (playable .workers) (playable .ring) (r .before) picks-before w t worker (r .registering) (r .since) picks-since)
 
     waits : (registered r) .place w ≡ looking t
     unfolding step
@@ -126,11 +114,14 @@ module _ (c : Setup) (playable : Playable c) (ws : List ℕ) (p : Picks (c .work
         → Within (pick c) (λ s. (finished c s ≡ true) ⊎ OutOfWait c w s) (waitingFigure c B (distanceOf r)) (r .since) (registered r)
         ⊎ (length (r .since) < waitingFigure c B (distanceOf r))
     waiting-of B g =
-        waiting-figure c (playable .workers) (Inv c) (λ s v. v .locked) (λ s v. drains-below c s (v .tasks)) (inv-step c playable) w t worker
-        (registered r) (inv-step c playable (after c (r .before)) w worker (inv-after c playable (r .before) picks-before)) waits B (r .since) picks-since
+        waiting-figure c (playable .workers) (Inv c) (λ s v. v .locked) (λ s v. drains-below c s (v .device)) (inv-step c playable)
+        w t worker (registered r)
+        (inv-step c playable (after c (r .before)) w worker (inv-after c playable (r .before) picks-before))
+        waits B (r .since) picks-since
         (subst (Regular (c .workers) B) (cut 1) (regular-drop (c .workers) B (length (r .before) + 1) ws g))
 
-  rest : (us vs : List ℕ) → us ++ vs ≡ ws → (after c ws ≡ run (pick c) (after c us) vs) × (finished c (after c us) ≡ true → after c ws ≡ after c us)
+  rest : (us vs : List ℕ) → us ++ vs ≡ ws
+      → (after c ws ≡ run (pick c) (after c us) vs) × (finished c (after c us) ≡ true → after c ws ≡ after c us)
   unfolding after
   rest us vs e =
       let on : after c ws ≡ run (pick c) (after c us) vs = ap (after c) (sym e) ∙ run-append (pick c) (start c) us vs in
@@ -148,7 +139,10 @@ module _ (c : Setup) (playable : Playable c) (ws : List ℕ) (p : Picks (c .work
         turn = turn-of;
         waiting = λ B g w t r. waiting-of w t r B g;
         finishing = λ B g l.
-            let e = finishing-figure c playable B ws p g l in
-            (e, finishing-picks c playable B ws p g l, λ i b. S.run-by-one c playable ws p i (all-over c (after c ws) e i b));
+            let e = finishing-figure c playable B ws p g l in (
+              e,
+              finishing-picks c playable B ws p g l,
+              λ i b. S.run-by-one c playable ws p i (P.all-over (c .workers) (c .tasks) ((after c ws) .tasks) ((after c ws) .stand) e i b),
+            );
         at-once = finished-at-once c;
       }

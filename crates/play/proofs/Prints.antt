@@ -1,7 +1,7 @@
 -- What a run leaves in an output that is long enough is what is to be printed. Assumes nothing.
 use Prim.Native.Nat.{ℕ, _+_, _-_, _^_, _≤_}
-use mathlib.Core.Path.{_≡_, refl, sym, ap, _∙_}
-use mathlib.Core.Bool.{Bool, true, false, cond}
+use mathlib.Core.Path.{_≡_, refl, ap, _∙_}
+use mathlib.Core.Bool.{Bool, true, false}
 use mathlib.Core.List.{List, _++_}
 use native.Mathlib.Omega.{arith}
 use lib.ListN.{length, take, drop, length-append}
@@ -16,7 +16,9 @@ use Rattle.report.specs.Writing.{fields, Wrote}
 use Rattle.refusals.specs.Line.{refusalFields}
 use Rattle.bench.specs.declared.Answer.{Answer}
 use Rattle.bench.specs.declared.Answer.the-variants.{Reports, Refuses}
-use Rattle.bench.specs.Answer.{Outcome, reached, reportOf, refusal, written, played, run, printedFor, printed}
+use Rattle.orders.specs.Reached.{reached}
+use Rattle.report.specs.Sizes.{longest}
+use Rattle.bench.specs.Answer.{storeSize, Outcome, reportOf, refusal, written, played, run, printedFor, printed}
 use Rattle.play.specs.Short.{accepted-short}
 
 abbrev noLimit : ℕ
@@ -35,9 +37,9 @@ module _ (store output text : List ℕ) where
   unfolding run
   run-long e = rw (e, run)
 
-  run-read : isTooLong text ≡ false → 8192 ≤ length store → run noLimit store output text ≡ played noLimit store output (reading text)
+  run-read : isTooLong text ≡ false → storeSize ≤ length store → run noLimit store output text ≡ played noLimit store output (reading text)
   unfolding run
-  run-read e h = rw (e, le-ltb (length store) 8192 h, run)
+  run-read e h = rw (e, le-ltb (length store) storeSize h, run)
 
   reading-long : isTooLong text ≡ true → reading text ≡ refused TextTooLong 0
   unfolding reading
@@ -53,7 +55,7 @@ module _ (store output text : List ℕ) where
   played-prints (accepted p) h = written-fits (reached p noLimit .picks) (reportOf p noLimit) (h p refl)
   played-prints (refused r n) h = (refl, refl)
 
-  run-prints : 8192 ≤ length store → 11745 ≤ length output → Outputs (printed text) output (run noLimit store output text)
+  run-prints : storeSize ≤ length store → longest ≤ length output → Outputs (printed text) output (run noLimit store output text)
   unfolding printedFor
   run-prints h k = go (isTooLong text) refl
     where
@@ -70,7 +72,7 @@ begins n bs after rest e q =
     let first : take n after ≡ bs = rw (e, q) (take-append-seam bs rest) in
     ((omega (arith, ap length q, length-append bs rest), rw first e), first)
 
-module _ (store output text : List ℕ) (h : 8192 ≤ length store) (k : 11745 ≤ length output) (a : Answer) (left after : List ℕ)
+module _ (store output text : List ℕ) (h : storeSize ≤ length store) (k : longest ≤ length output) (a : Answer) (left after : List ℕ)
     (e : record { answer = a; store = left; output = after } ≡ run noLimit store output text) where
   ended : Prints (printed text) output a after
   ended = rw (← e) at (run-prints store output text h k)
@@ -80,9 +82,11 @@ module _ (store output text : List ℕ) (h : 8192 ≤ length store) (k : 11745 �
       let (x, y) : Prints (printed text) output (Reports picks n) after = rw q at ended in
       begins n (printed text) after (drop (length (printed text)) output) x y
 
-  pub refuses : (r : Refusal) (n : ℕ) → a ≡ Refuses r n → (end : ℕ) (last : List ℕ) → Wrote after 0 (fields (refusalFields (number r) n)) end last
+  pub refuses : (r : Refusal) (n : ℕ) → a ≡ Refuses r n → (end : ℕ) (last : List ℕ)
+      → Wrote after 0 (fields (refusalFields (number r) n)) end last
       → end ≤ 0 + 25 → Begins end (printed text) last
   refuses r n q end last w short =
       let (x, y) : Prints (printed text) output (Refuses r n) after = rw q at ended in
       let bs = line (refusalFields (number r) n) in
-      rw x at (begins end bs last (drop (0 + length bs) after) (omega (arith, w .place)) (w .stores ∙ sets-eq bs after 0 (omega (arith, w .place, ap length y))))
+      let stored = w .stores ∙ sets-eq bs after 0 (omega (arith, w .place, ap length y)) in
+      rw x at (begins end bs last (drop (0 + length bs) after) (omega (arith, w .place)) stored)

@@ -2,7 +2,8 @@
 ghost use mathlib.Core.Path.{_≡_};
 ghost use Prim.Native.Nat.{_≤_};
 ghost use lib.ListN.{length, take};
-ghost use Rattle.bench.specs.Answer.{printed};
+ghost use Rattle.report.specs.Sizes.{longest};
+ghost use Rattle.bench.specs.Answer.{storeSize, printed};
 use bench::Answer;
 use refusals::put_refusal;
 
@@ -10,7 +11,7 @@ const NO_LIMIT: u64 = 18446744073709551615;
 
 // Puts it into the first bytes of an output; how many bytes it has.
 pub fn answer(text: &[u8], store: &mut [u64], output: &mut [u8]) -> usize
-    requires { ⌜ (8192 ≤ length (now store)) × (11745 ≤ length (now output)) ⌝ }
+    requires { ⌜ (storeSize ≤ length (now store)) × (longest ≤ length (now output)) ⌝ }
     ensures length { λ r. ⌜ (r ≤ length (now (output .exit))) × (r ≡ length (take r (now (output .exit)))) ⌝ }
     ensures bytes { λ r. ⌜ take r (now (output .exit)) ≡ printed (now (text .entry)) ⌝ }
 {

@@ -5,16 +5,19 @@ use mathlib.Core.List.{List, _++_, append-assoc}
 use native.Mathlib.Nat.{add-zero}
 use native.Mathlib.Numerals.{add-one}
 use native.Mathlib.Omega.{arith}
-use lib.ListN.{length, getD, drop, length-append}
+use lib.ListN.{length, drop, length-append}
 use lib.Seq.{sets-eq}
 use Rattle.plan.specs.Text.{line}
 use Rattle.machine.specs.State.{Setup, State}
+use Rattle.memory.specs.Rows.{outcomeAt}
+use Rattle.memory.specs.Labels.{labelAt, labelIn}
+use Rattle.memory.specs.declared.labels.Label.{Label}
+use Rattle.memory.specs.declared.rows.Outcome.{Outcome}
 use Rattle.report.specs.Report.{report}
-use Rattle.report.specs.Printed.{outcomeFields, taskFields, lockFields, rowAt, labelIn, tasksPrinted, printed}
+use Rattle.report.specs.Printed.{outcomeFields, taskFields, lockFields, fieldsAt, tasksPrinted, printed}
 use Rattle.report.specs.Shown.{Shown}
 use Rattle.report.specs.Writing.{text, fields, Room, Wrote}
 use Rattle.report.specs.declared.Summary.{Summary}
-use Rattle.report.specs.declared.Row.{Row}
 use Rattle.report.proofs.Writes.{wrote-none, wrote-then, wrote-length, room-first, room-rest}
 use Rattle.report.proofs.Prints.{printed-shown}
 
@@ -29,7 +32,7 @@ lockOf summary = lockFields (summary .head) (summary .tail) (summary .owner)
 
 -- each label is as long as its number says
 abbrev pub Placed : List ℕ → List ℕ → ℕ → Type 0
-Placed places bytes n = (i : ℕ) → i < n → length (labelIn bytes places i) ≡ getD places (2 * i + 1) 0
+Placed places bytes n = (i : ℕ) → i < n → length (labelIn bytes (labelAt places i)) ≡ labelAt places i .size
 
 -- the lengths of the first i tasks' lines, added to what was there
 pub record Summed (rows places : List ℕ) (n start total i : ℕ) : Type 0 where
@@ -41,11 +44,12 @@ pub summed-none : (rows places : List ℕ) (n start : ℕ) → start ≤ 97 → 
 unfolding tasksPrinted
 summed-none rows places n start h = record { inside = omega arith; bounded = omega arith; lines = λ bytes p. sym (add-zero start) }
 
-pub summed-more : {rows places : List ℕ} {n start total i : ℕ} {row : Row} {size : ℕ} → Summed rows places n start total i → i < n → row ≡ rowAt rows i
-    → ((label : List ℕ) → length label ≡ getD places (2 * i + 1) 0 → size ≡ length (line (taskFields i label row))) → size ≤ 111
+pub summed-more : {rows places : List ℕ} {n start total i : ℕ} {stands : Label} {task : Outcome} {size : ℕ}
+    → Summed rows places n start total i → i < n → stands ≡ labelAt places i → task ≡ outcomeAt rows i
+    → ((label : List ℕ) → length label ≡ stands .size → size ≡ length (line (taskFields i label task))) → size ≤ 111
     → Summed rows places n start (total + size) (i + 1)
 unfolding tasksPrinted
-summed-more {rows} {places} {n} {start} {total} {i} {row} {size} h k e size-is small =
+summed-more {rows} {places} {n} {start} {total} {i} {stands} {task} {size} h k here is size-is small =
     record {
       inside = omega arith;
       bounded = omega (arith, h .bounded);
@@ -54,20 +58,22 @@ summed-more {rows} {places} {n} {start} {total} {i} {row} {size} h k e size-is s
           (omega (
             arith,
             h .lines bytes p,
-            size-is (labelIn bytes places i) (p i k) ∙ ap (λ (r : Row). length (line (taskFields i (labelIn bytes places i) r))) e,
-            length-append (tasksPrinted rows places bytes i) (line (taskFields i (labelIn bytes places i) (rowAt rows i))),
+            size-is (labelIn bytes (labelAt places i)) (p i k ∙ ap (λ (l : Label). l .size) (sym here))
+                ∙ ap (λ (t : Outcome). length (line (taskFields i (labelIn bytes (labelAt places i)) t))) is,
+            length-append (tasksPrinted rows places bytes i) (line (fieldsAt rows places bytes i)),
           ));
     }
 
 -- all lines
-pub length-shown : {c : Setup} {s : State} {summary : Summary} {rows places bytes : List ℕ} → Shown c s summary rows places bytes → {start total i : ℕ}
-    → start ≡ length (line (outcomeOf summary)) + length (line (lockOf summary)) → Summed rows places (summary .tasks) start total i → summary .tasks ≤ i
+pub length-shown : {c : Setup} {s : State} {summary : Summary} {rows places bytes : List ℕ} → Shown c s summary rows places bytes
+    → {start total i : ℕ} → start ≡ length (line (outcomeOf summary)) + length (line (lockOf summary))
+    → Summed rows places (summary .tasks) start total i → summary .tasks ≤ i
     → total ≡ length (report c s)
 unfolding printed
 length-shown {c} {s} {summary} {rows} {places} {bytes} shown {start} {total} {i} e h k =
     let placed : Placed places bytes (summary .tasks) =
     λ j g. let here : j < length (c .tasks) = omega (arith, shown .count) in
-    ap length (shown .labels .label j here) ∙ sym (shown .labels .size j here) in
+    ap length (shown .labels j here .label) ∙ sym (shown .labels j here .size) in
     let last : i ≡ summary .tasks = omega (arith, h .inside) in
     let lines : List ℕ = tasksPrinted rows places bytes (summary .tasks) in
     h .lines bytes placed
@@ -90,11 +96,12 @@ module _ (rows places bytes : List ℕ) where
       rw e (omega (
         arith,
         tasks-grow i k,
-        length-append (tasksPrinted rows places bytes (i + k)) (line (taskFields (i + k) (labelIn bytes places (i + k)) (rowAt rows (i + k)))),
+        length-append (tasksPrinted rows places bytes (i + k)) (line (fieldsAt rows places bytes (i + k))),
       ))
 
 -- the first i of n tasks' lines written, with room for all of them and for one line more
-pub record Printing (rows places bytes : List ℕ) (n : ℕ) (rest : List (List ℕ)) (out : List ℕ) (at : ℕ) (after : List ℕ) (next i : ℕ) : Type 0 where
+pub record Printing (rows places bytes : List ℕ) (n : ℕ) (rest : List (List ℕ)) (out : List ℕ) (at : ℕ) (after : List ℕ)
+    (next i : ℕ) : Type 0 where
   pub inside : i ≤ n
   pub room : Room out at (text (tasksPrinted rows places bytes n ++ line rest))
   pub wrote : Wrote out at (text (tasksPrinted rows places bytes i)) next after
@@ -102,7 +109,7 @@ pub record Printing (rows places bytes : List ℕ) (n : ℕ) (rest : List (List 
 module _ {rows places bytes : List ℕ} {n : ℕ} {rest : List (List ℕ)} {out : List ℕ} {at : ℕ} where
   module _ {after : List ℕ} {next i : ℕ} (p : Printing rows places bytes n rest out at after next i) where
     module _ (k : i < n) where
-      pub printing-room : Room after next (fields (taskFields i (labelIn bytes places i) (rowAt rows i)))
+      pub printing-room : Room after next (fields (fieldsAt rows places bytes i))
       unfolding tasksPrinted
       printing-room =
           let e : n ≡ suc i + (n - suc i) = omega arith in
@@ -117,11 +124,11 @@ module _ {rows places bytes : List ℕ} {n : ℕ} {rest : List (List ℕ)} {out 
                   p .wrote .place,
                   wrote-length (p .wrote),
                   length-append (tasksPrinted rows places bytes n) (line rest),
-                  length-append (tasksPrinted rows places bytes i) (line (taskFields i (labelIn bytes places i) (rowAt rows i))),
+                  length-append (tasksPrinted rows places bytes i) (line (fieldsAt rows places bytes i)),
                 );
           }
 
-      pub printing-more : {after' : List ℕ} {next' : ℕ} → Wrote after next (fields (taskFields i (labelIn bytes places i) (rowAt rows i))) next' after'
+      pub printing-more : {after' : List ℕ} {next' : ℕ} → Wrote after next (fields (fieldsAt rows places bytes i)) next' after'
           → Printing rows places bytes n rest out at after' next' (i + 1)
       unfolding tasksPrinted
       printing-more w = record { inside = omega arith; room = p .room; wrote = rw (add-one i) (wrote-then (p .wrote) refl w) }
@@ -154,18 +161,24 @@ module _ {c : Setup} {s : State} {summary : Summary} {rows places bytes : List �
       (v .place ∙ z, v .stores ∙ sets-eq (report c s) out 0 (g .fits) ∙ ap (λ (k : ℕ). report c s ++ drop k out) z)
 
 module _ (summary : Summary) (rows places bytes : List ℕ) where
-  parts : printed rows places bytes summary ≡ line (outcomeOf summary) ++ (tasksPrinted rows places bytes (summary .tasks) ++ line (lockOf summary))
+  -- what comes after the first line
+  abbrev rest : List ℕ
+  rest = tasksPrinted rows places bytes (summary .tasks) ++ line (lockOf summary)
+
+  parts : printed rows places bytes summary ≡ line (outcomeOf summary) ++ rest
   unfolding printed
   parts = append-assoc (line (outcomeOf summary)) (tasksPrinted rows places bytes (summary .tasks)) (line (lockOf summary))
 
   pub outcome-room : {out : List ℕ} → Room out 0 (text (printed rows places bytes summary)) → Room out 0 (fields (outcomeOf summary))
-  outcome-room room = room-first (tasksPrinted rows places bytes (summary .tasks) ++ line (lockOf summary)) parts room
+  outcome-room room = room-first rest parts room
 
   module _ {out : List ℕ} {at : ℕ} {mid : List ℕ} (w : Wrote out 0 (fields (outcomeOf summary)) at mid) where
-    pub printing-start : Room out 0 (text (printed rows places bytes summary)) → Printing rows places bytes (summary .tasks) (lockOf summary) mid at mid at 0
+    pub printing-start : Room out 0 (text (printed rows places bytes summary))
+        → Printing rows places bytes (summary .tasks) (lockOf summary) mid at mid at 0
     printing-start room = printing-none (room-rest w parts room)
 
-    pub printing-end : {after final : List ℕ} {next i end : ℕ} → Printing rows places bytes (summary .tasks) (lockOf summary) mid at after next i
-        → summary .tasks ≤ i → Wrote after next (fields (lockOf summary)) end final → Wrote out 0 (text (printed rows places bytes summary)) end final
+    pub printing-end : {after final : List ℕ} {next i end : ℕ}
+        → Printing rows places bytes (summary .tasks) (lockOf summary) mid at after next i → summary .tasks ≤ i
+        → Wrote after next (fields (lockOf summary)) end final → Wrote out 0 (text (printed rows places bytes summary)) end final
     printing-end p k v =
-        wrote-then w {y = text (tasksPrinted rows places bytes (summary .tasks) ++ line (lockOf summary))} parts (wrote-then (printing-all p k) refl v)
+        wrote-then w {y = text rest} parts (wrote-then (printing-all p k) refl v)

@@ -8,19 +8,26 @@ use native.Mathlib.Omega.{arith}
 use lib.ListN.{length}
 use Rattle.plan.specs.Text.{bytes, decimal, line}
 use Rattle.plan.specs.Plan.{Task}
-use Rattle.machine.specs.Accesses.{taskAt}
-use Rattle.machine.specs.State.{Setup, State, Status, new, waiting, ready, held, running, over}
-use Rattle.scheduler.specs.Codes.{statusCode, optionCode}
-use Rattle.report.specs.Report.{statusName, fromRunOn, whenOver, numberOrNone, owner, outcomeLine, taskLine, taskLines, lockLine, report}
-use Rattle.report.specs.Printed.{ownerWord, statusWord, outcomeFields, taskFields, lockFields, rowAt, labelIn, tasksPrinted, printed}
+use Rattle.tasks.specs.Accesses.{taskAt}
+use Rattle.tasks.specs.Tasks.{Status, new, waiting, ready, held, running, over}
+use Rattle.machine.specs.State.{Setup, State}
+use Rattle.memory.specs.Codes.{statusCode, optionCode}
+use Rattle.memory.specs.RowLaws.{outcome-is}
+use Rattle.memory.specs.declared.rows.Outcome.{Outcome}
+use Rattle.machine.specs.Whereabouts.{owner}
+use Rattle.report.specs.Report.{statusName, fromRunOn, whenOver, numberOrNone}
+use Rattle.report.specs.Report.{outcomeLine, taskLine, taskLines, lockLine, report}
+use Rattle.report.specs.Printed.{ownerWord, statusWord, outcomeFields, taskFields, lockFields, fieldsAt, tasksPrinted, printed}
 use Rattle.report.specs.Shown.{Shown}
 use Rattle.report.specs.declared.Summary.{Summary}
-use Rattle.report.specs.declared.Row.{Row}
 
 owner-word : (o : Option ℕ) → ownerWord (optionCode o) ≡ numberOrNone o
 unfolding ownerWord
 owner-word none = refl
 owner-word (some n) = refl
+
+pub same-fields : (i : ℕ) {label label' : List ℕ} {t t' : Outcome} → label ≡ label' → t ≡ t' → taskFields i label t ≡ taskFields i label' t'
+same-fields i {label} {label'} {t} {t'} e f = ap (λ (l : List ℕ). taskFields i l t) e ∙ ap (taskFields i label') f
 
 -- a task's line by its status, and by the status's number
 coded : (i : ℕ) (label : List ℕ) (st : Status) (runner receipt ending : ℕ)
@@ -35,28 +42,24 @@ coded i label running runner receipt ending = refl
 coded i label over runner receipt ending = refl
 
 module _ {c : Setup} {s : State} {summary : Summary} {rows places text : List ℕ} (shown : Shown c s summary rows places text) where
-  row-shown : (i : ℕ) → i < length (c .tasks)
-      → rowAt rows i ≡ record { status = statusCode (s .status i); runner = s .runner i; receipt = s .receipt i; ending = s .ending i }
-  row-shown i h = rw (shown .rows .status i h, shown .rows .runner i h, shown .rows .receipt i h, shown .rows .ending i h)
-
-  line-shown : (i : ℕ) → i < length (c .tasks) → line (taskFields i (labelIn text places i) (rowAt rows i)) ≡ taskLine c s i (taskAt (c .tasks) i)
+  line-shown : (i : ℕ) → i < length (c .tasks) → line (fieldsAt rows places text i) ≡ taskLine c s i (taskAt (c .tasks) i)
   line-shown i h =
-      ap (λ (r : Row). line (taskFields i (labelIn text places i) r)) (row-shown i h)
-      ∙ coded i (labelIn text places i) (s .status i) (s .runner i) (s .receipt i) (s .ending i)
-      ∙ ap (λ (l : List ℕ). line (bytes "T" ∷ decimal i ∷ l ∷ statusName (s .status i) ∷ fromRunOn (s .status i) (s .runner i) ∷ fromRunOn (s .status i) (s .receipt i) ∷ whenOver (s .status i) (s .ending i) ∷ []))
-      (shown .labels .label i h)
+      let t = s .tasks in
+      ap line (same-fields i (shown .labels i h .label)
+      (outcome-is (c .tasks) rows (t .count) (t .status) (t .runner) (t .receipt) (t .ending) (shown .rows) i h))
+      ∙ coded i (taskAt (c .tasks) i .label) (t .status i) (t .runner i) (t .receipt i) (t .ending i)
 
 -- the lines of the first tasks, one added at the end, and the lines from a task on, one added at the front
 module _ (c : Setup) (s : State) (rows places text : List ℕ) where
   lines-from : (i : ℕ) (ts : List Task)
-      → ((k : ℕ) → k < length ts → line (taskFields (i + k) (labelIn text places (i + k)) (rowAt rows (i + k))) ≡ taskLine c s (i + k) (taskAt ts k))
+      → ((k : ℕ) → k < length ts → line (fieldsAt rows places text (i + k)) ≡ taskLine c s (i + k) (taskAt ts k))
       → tasksPrinted rows places text (i + length ts) ≡ tasksPrinted rows places text i ++ taskLines c s i ts
   unfolding tasksPrinted taskLines
   lines-from i [] h = ap (tasksPrinted rows places text) (add-zero i) ∙ sym (append-nil (tasksPrinted rows places text i))
   lines-from i (t ∷ ts) h =
       let e : i + suc (length ts) ≡ suc i + length ts = omega arith in
       let z : i + 0 ≡ i = add-zero i in
-      let first : line (taskFields i (labelIn text places i) (rowAt rows i)) ≡ taskLine c s i t = rw z at (h 0 (omega arith)) in
+      let first : line (fieldsAt rows places text i) ≡ taskLine c s i t = rw z at (h 0 (omega arith)) in
       ap (tasksPrinted rows places text) e
       ∙ lines-from (suc i) ts (λ k g. let q : i + suc k ≡ suc i + k = omega arith in rw q at (h (suc k) (omega arith)))
       ∙ ap (λ (l : List ℕ). tasksPrinted rows places text i ++ l ++ taskLines c s (suc i) ts) first
@@ -76,9 +79,4 @@ module _ {c : Setup} {s : State} {summary : Summary} {rows places text : List �
       let first : line (outcomeFields (summary .finished) (summary .picks)) ≡ outcomeLine c s = rw (shown .finished, shown .picks) in
       let last : line (lockFields (summary .head) (summary .tail) (summary .owner)) ≡ lockLine c s =
       rw (shown .head, shown .tail, shown .owner, owner-word (owner c s)) in
-      ap (λ (l : List ℕ). l ++ tasksPrinted rows places text (summary .tasks) ++ line (lockFields (summary .head) (summary .tail) (summary .owner))) first
-      ∙ ap (λ (l : List ℕ). outcomeLine c s ++ l ++ line (lockFields (summary .head) (summary .tail) (summary .owner))) tasks-shown
-      ∙ ap (λ (l : List ℕ). outcomeLine c s ++ taskLines c s 0 (c .tasks) ++ l) last
-
-pub same-fields : (i : ℕ) {label label' : List ℕ} {row row' : Row} → label ≡ label' → row ≡ row' → taskFields i label row ≡ taskFields i label' row'
-same-fields i {label} {label'} {row} {row'} e f = ap (λ (l : List ℕ). taskFields i l row) e ∙ ap (taskFields i label') f
+      rw (first, tasks-shown, last)

@@ -1,10 +1,13 @@
 -- The words of a report, and what stands for a number that is not known. Assumes nothing.
 use Prim.Native.Nat.{ℕ, zero, suc, _-_, _≤_}
-use mathlib.Core.Path.{_≡_, refl}
+use mathlib.Core.Path.{_≡_}
+use mathlib.Core.Logic.{_≢_}
 use mathlib.Core.Bool.{Bool, true, false}
 use mathlib.Core.List.{[], _∷_}
 use native.Mathlib.Omega.{arith}
+use borrow.Author.Tests.{ne-eqb}
 use Rattle.plan.specs.Text.{bytes, decimal}
+use Rattle.memory.specs.Layout as layout
 use Rattle.report.specs.Printed.{numberIf, statusWord, ownerWord}
 
 pub number-known : (known : Bool) (n : ℕ) → known ≡ true → numberIf known n ≡ decimal n
@@ -14,15 +17,12 @@ pub number-unknown : (known : Bool) (n : ℕ) → known ≡ false → numberIf k
 unfolding bytes
 number-unknown known n e = rw e
 
--- no number below 5
-pub status-over : (n : ℕ) → 5 ≤ n → statusWord n ≡ statusWord 5
+-- no other word
+pub status-over : (n : ℕ) → n ≢ layout.new → n ≢ layout.waiting → n ≢ layout.ready → n ≢ layout.held → n ≢ layout.running
+    → statusWord n ≡ statusWord layout.over
 unfolding statusWord
-status-over zero h = absurd (omega arith)
-status-over (suc zero) h = absurd (omega arith)
-status-over (suc (suc zero)) h = absurd (omega arith)
-status-over (suc (suc (suc zero))) h = absurd (omega arith)
-status-over (suc (suc (suc (suc zero)))) h = absurd (omega arith)
-status-over (suc (suc (suc (suc (suc n))))) h = refl
+status-over n a b c d e =
+    rw (ne-eqb n layout.new a, ne-eqb n layout.waiting b, ne-eqb n layout.ready c, ne-eqb n layout.held d, ne-eqb n layout.running e)
 
 pub owner-some : (n : ℕ) → 1 ≤ n → ownerWord n ≡ decimal (n - 1)
 unfolding ownerWord

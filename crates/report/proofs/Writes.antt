@@ -21,7 +21,8 @@ pub wrote-none : {out : List ℕ} {at : ℕ} → Wrote out at (text []) at out
 wrote-none {at = at} = record { place = sym (add-zero at); stores = refl }
 
 -- the same bytes, said in another way
-pub wrote-as : {out : List ℕ} {at : ℕ} {x y : Said} {next : ℕ} {after : List ℕ} → said y ≡ said x → Wrote out at x next after → Wrote out at y next after
+pub wrote-as : {out : List ℕ} {at : ℕ} {x y : Said} {next : ℕ} {after : List ℕ} → said y ≡ said x
+    → Wrote out at x next after → Wrote out at y next after
 wrote-as e w = record { place = rw e (w .place); stores = rw e (w .stores) }
 
 pub room-as : {out : List ℕ} {at : ℕ} {x y : Said} → said y ≡ said x → Room out at y → Room out at x
@@ -71,7 +72,8 @@ copied-place {bytes} {i = i} h = h .wrote .place ∙ omega (arith, length-take-l
 pub copied-more : {bytes out : List ℕ} {at : ℕ} {after : List ℕ} {next i : ℕ} → Copied bytes out at after next i → i < length bytes
     → Copied bytes out at (set after next (getD bytes i 0)) (next + 1) (i + 1)
 copied-more {bytes} {after = after} {next} {i} h k =
-    let byte : Wrote after next (text (getD bytes i 0 ∷ [])) (next + 1) (set after next (getD bytes i 0)) = record { place = refl; stores = refl } in
+    let byte : Wrote after next (text (getD bytes i 0 ∷ [])) (next + 1) (set after next (getD bytes i 0)) =
+    record { place = refl; stores = refl } in
     record { inside = omega arith; wrote = wrote-then (h .wrote) (rw (add-one i, take-suc bytes i 0 k)) byte }
 
 -- ---- the fields of a line

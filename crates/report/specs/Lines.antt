@@ -22,4 +22,5 @@ length-4 a b c d = omega (arith, more a b (c ∷ d ∷ []), length-3 b c d)
 
 pub length-7 : (a b c d e f g : List ℕ)
     → length (line (a ∷ b ∷ c ∷ d ∷ e ∷ f ∷ g ∷ [])) ≡ length a + length b + length c + length d + length e + length f + length g + 7
-length-7 a b c d e f g = omega (arith, more a b (c ∷ d ∷ e ∷ f ∷ g ∷ []), more b c (d ∷ e ∷ f ∷ g ∷ []), more c d (e ∷ f ∷ g ∷ []), length-4 d e f g)
+length-7 a b c d e f g =
+    omega (arith, more a b (c ∷ d ∷ e ∷ f ∷ g ∷ []), more b c (d ∷ e ∷ f ∷ g ∷ []), more c d (e ∷ f ∷ g ∷ []), length-4 d e f g)

@@ -1,13 +1,14 @@
 -- The report of a state, byte for byte.
 use Prim.Native.Nat.{ℕ, suc}
-use mathlib.Core.Bool.{Bool, true, false, cond}
+use mathlib.Core.Bool.{cond}
 use mathlib.Core.List.{List, [], _∷_, _++_}
 use mathlib.Core.Option.{Option, none, some}
 use Rattle.plan.specs.Text.{bytes, decimal, line}
 use Rattle.plan.specs.Plan.{Task}
-use Rattle.machine.specs.Accesses.{lastBelow}
-use Rattle.machine.specs.State.{Setup, Place, idle, notifying, trying, registering, looking, draining, serving, handing, leaving, working, Status, new, waiting, ready, held, running, over, State}
+use Rattle.tasks.specs.Tasks.{Status, new, waiting, ready, held, running, over}
+use Rattle.machine.specs.State.{Setup, State}
 use Rattle.machine.specs.Step.{finished}
+use Rattle.machine.specs.Whereabouts.{owner}
 
 -- a field that is not yet known
 abbrev pub unknown : List ℕ
@@ -38,36 +39,20 @@ whenOver held n = unknown
 whenOver running n = unknown
 whenOver over n = decimal n
 
--- an owner's place: from the look or try that wins until it hands over and leaves
-abbrev pub isOwner : Place → Bool
-isOwner idle = false
-isOwner (notifying a f) = false
-isOwner trying = false
-isOwner (registering t) = false
-isOwner (looking t) = false
-isOwner (draining p k) = true
-isOwner (serving n) = true
-isOwner (handing n) = true
-isOwner (leaving o) = true
-isOwner (working i n) = false
-
 abbrev pub numberOrNone : Option ℕ → List ℕ
 numberOrNone none = unknown
 numberOrNone (some n) = decimal n
 
 module _ (c : Setup) (s : State) where
-  -- at most one worker owns
-  unfoldable pub owner : Option ℕ
-  owner = lastBelow (λ w. isOwner (s .place w)) (c .workers)
-
   abbrev pub outcomeLine : List ℕ
   outcomeLine = line (bytes "E" ∷ cond (finished c s) (bytes "finished") (bytes "open") ∷ decimal (s .picks) ∷ [])
 
   abbrev pub taskLine : ℕ → Task → List ℕ
   taskLine i t =
+      let status = s .tasks .status i in
       line (
-      bytes "T" ∷ decimal i ∷ t .label ∷ statusName (s .status i)
-      ∷ fromRunOn (s .status i) (s .runner i) ∷ fromRunOn (s .status i) (s .receipt i) ∷ whenOver (s .status i) (s .ending i) ∷ []
+      bytes "T" ∷ decimal i ∷ t .label ∷ statusName status
+      ∷ fromRunOn status (s .tasks .runner i) ∷ fromRunOn status (s .tasks .receipt i) ∷ whenOver status (s .tasks .ending i) ∷ []
       )
 
   -- the lines of the tasks from number i on
@@ -76,7 +61,7 @@ module _ (c : Setup) (s : State) where
   taskLines i (t ∷ ts) = taskLine i t ++ taskLines (suc i) ts
 
   abbrev pub lockLine : List ℕ
-  lockLine = line (bytes "L" ∷ decimal (s .lock .head) ∷ decimal (s .lock .tail) ∷ numberOrNone owner ∷ [])
+  lockLine = line (bytes "L" ∷ decimal (s .lock .head) ∷ decimal (s .lock .tail) ∷ numberOrNone (owner c s) ∷ [])
 
   unfoldable pub report : List ℕ
   report = outcomeLine ++ taskLines 0 (c .tasks) ++ lockLine

@@ -5,10 +5,10 @@ use mathlib.Core.List.{List}
 use lib.ListN.{length}
 use Rattle.machine.specs.State.{Setup, State}
 use Rattle.machine.specs.Step.{finished}
-use Rattle.scheduler.specs.Codes.{optionCode}
-use Rattle.scheduler.specs.Rows.{TaskRows}
-use Rattle.scheduler.specs.Labels.{Labels}
-use Rattle.report.specs.Report.{owner}
+use Rattle.memory.specs.Codes.{optionCode}
+use Rattle.memory.specs.Rows.{TaskRows}
+use Rattle.memory.specs.Labels.{Labels}
+use Rattle.machine.specs.Whereabouts.{owner}
 use Rattle.report.specs.declared.Summary.{Summary}
 
 pub record Shown (c : Setup) (s : State) (summary : Summary) (table places text : List ℕ) : Type 0 where
@@ -18,5 +18,5 @@ pub record Shown (c : Setup) (s : State) (summary : Summary) (table places text 
   pub tail : summary .tail ≡ s .lock .tail
   pub owner : summary .owner ≡ optionCode (owner c s)
   pub count : summary .tasks ≡ length (c .tasks)
-  pub rows : TaskRows (c .tasks) table (s .count) (s .status) (s .runner) (s .receipt) (s .ending)
+  pub rows : TaskRows (c .tasks) table (s .tasks .count) (s .tasks .status) (s .tasks .runner) (s .tasks .receipt) (s .tasks .ending)
   pub labels : Labels (c .tasks) text places

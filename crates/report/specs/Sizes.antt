@@ -1,4 +1,4 @@
--- How long a report can be: the first line has at most 32 bytes, the last one 65, and a task's 91.
+-- How long a report can be.
 use Prim.Native.Nat.{ℕ, suc, _+_, _*_, _^_, _≤_, _<_}
 use mathlib.Core.Path.{_≡_, refl, ap, _∙_}
 use mathlib.Core.Bool.{Bool, true, false, cond}
@@ -8,27 +8,35 @@ use native.Mathlib.Omega.{arith}
 use lib.ListN.{length, getD, length-append}
 use Rattle.plan.specs.Text.{bytes, decimal}
 use Rattle.plan.specs.Plan.{Task}
-use Rattle.machine.specs.Accesses.{taskAt}
-use Rattle.machine.specs.State.{Setup, State, Status, new, waiting, ready, held, running, over}
+use Rattle.tasks.specs.Accesses.{taskAt}
+use Rattle.tasks.specs.Tasks.{Status, new, waiting, ready, held, running, over}
+use Rattle.machine.specs.State.{Setup, State}
 use Rattle.machine.specs.Step.{finished}
-use Rattle.scheduler.specs.Codes.{optionCode}
-use Rattle.report.specs.Report.{statusName, fromRunOn, whenOver, numberOrNone, owner, outcomeLine, taskLine, taskLines, lockLine, report}
+use Rattle.memory.specs.Layout as layout
+use Rattle.memory.specs.Codes.{optionCode}
+use Rattle.machine.specs.Whereabouts.{owner}
+use Rattle.report.specs.Report.{statusName, fromRunOn, whenOver, numberOrNone}
+use Rattle.report.specs.Report.{outcomeLine, taskLine, taskLines, lockLine, report}
 use Rattle.report.specs.Decimals.{decimal-short, decimal-20}
 use Rattle.report.specs.Lines.{length-3, length-4, length-7}
 use Rattle.report.specs.Shown.{Shown}
 use Rattle.report.specs.declared.Summary.{Summary}
 
--- at most 128 tasks, labels of at most 16 bytes, and numbers of 64 bits
+-- the first line has at most 32 bytes, a task's 91, and the last one 65
+abbrev pub longest : ℕ
+longest = 32 + 91 * layout.mostTasks + 65
+
+-- at most so many tasks, labels of at most so many bytes, and numbers of 64 bits
 pub record Small (c : Setup) (s : State) : Type 0 where
-  pub tasks : length (c .tasks) ≤ 128
-  pub labels : (i : ℕ) → i < length (c .tasks) → length (taskAt (c .tasks) i .label) ≤ 16
+  pub tasks : length (c .tasks) ≤ layout.mostTasks
+  pub labels : (i : ℕ) → i < length (c .tasks) → length (taskAt (c .tasks) i .label) ≤ layout.mostLabel
   pub picks : s .picks < 2 ^ 64
   pub head : s .lock .head < 2 ^ 64
   pub tail : s .lock .tail < 2 ^ 64
   pub owner : (w : ℕ) → owner c s ≡ some w → w < 2 ^ 64
-  pub runner : (i : ℕ) → i < length (c .tasks) → s .runner i < 2 ^ 64
-  pub receipt : (i : ℕ) → i < length (c .tasks) → s .receipt i < 2 ^ 64
-  pub ending : (i : ℕ) → i < length (c .tasks) → s .ending i < 2 ^ 64
+  pub runner : (i : ℕ) → i < length (c .tasks) → s .tasks .runner i < 2 ^ 64
+  pub receipt : (i : ℕ) → i < length (c .tasks) → s .tasks .receipt i < 2 ^ 64
+  pub ending : (i : ℕ) → i < length (c .tasks) → s .tasks .ending i < 2 ^ 64
 
 outcome-short : (done : Bool) → length (cond done (bytes "finished") (bytes "open")) ≤ 8
 unfolding bytes
@@ -52,24 +60,28 @@ figures-short running a b e p q r = omega (arith, decimal-20 a p, decimal-20 b q
 figures-short over a b e p q r = omega (arith, decimal-20 a p, decimal-20 b q, decimal-20 e r)
 
 module _ (c : Setup) (s : State) where
-  task-short : (i : ℕ) (t : Task) → i < 128 → length (t .label) ≤ 16 → s .runner i < 2 ^ 64 → s .receipt i < 2 ^ 64 → s .ending i < 2 ^ 64
+  task-short : (i : ℕ) (t : Task) → i < layout.mostTasks → length (t .label) ≤ layout.mostLabel
+      → s .tasks .runner i < 2 ^ 64 → s .tasks .receipt i < 2 ^ 64 → s .tasks .ending i < 2 ^ 64
       → length (taskLine c s i t) ≤ 91
   unfolding bytes
   task-short i t h k p q r =
+      let status = s .tasks .status i in
       omega (
         arith,
         decimal-short 2 i (omega arith),
-        figures-short (s .status i) (s .runner i) (s .receipt i) (s .ending i) p q r,
-        length-7 (bytes "T") (decimal i) (t .label) (statusName (s .status i)) (fromRunOn (s .status i) (s .runner i)) (fromRunOn (s .status i) (s .receipt i)) (whenOver (s .status i) (s .ending i)),
+        figures-short status (s .tasks .runner i) (s .tasks .receipt i) (s .tasks .ending i) p q r,
+        length-7 (bytes "T") (decimal i) (t .label) (statusName status)
+            (fromRunOn status (s .tasks .runner i)) (fromRunOn status (s .tasks .receipt i)) (whenOver status (s .tasks .ending i)),
       )
 
-  tasks-short : (i : ℕ) (ts : List Task) → i + length ts ≤ 128 → ((k : ℕ) → k < length ts → length (taskAt ts k .label) ≤ 16)
-      → ((k : ℕ) → k < i + length ts → (s .runner k < 2 ^ 64) × (s .receipt k < 2 ^ 64) × (s .ending k < 2 ^ 64))
+  tasks-short : (i : ℕ) (ts : List Task) → i + length ts ≤ layout.mostTasks
+      → ((k : ℕ) → k < length ts → length (taskAt ts k .label) ≤ layout.mostLabel)
+      → ((k : ℕ) → k < i + length ts → (s .tasks .runner k < 2 ^ 64) × (s .tasks .receipt k < 2 ^ 64) × (s .tasks .ending k < 2 ^ 64))
       → length (taskLines c s i ts) ≤ 91 * length ts
   unfolding taskLines
   tasks-short i [] h k n = omega arith
   tasks-short i (t ∷ ts) h k n =
-      let here : (s .runner i < 2 ^ 64) × (s .receipt i < 2 ^ 64) × (s .ending i < 2 ^ 64) = n i (omega arith) in
+      let here : (s .tasks .runner i < 2 ^ 64) × (s .tasks .receipt i < 2 ^ 64) × (s .tasks .ending i < 2 ^ 64) = n i (omega arith) in
       omega (
         arith,
         length-append (taskLine c s i t) (taskLines c s (suc i) ts),
@@ -77,7 +89,7 @@ module _ (c : Setup) (s : State) where
         tasks-short (suc i) ts (omega arith) (λ j g. k (suc j) (omega arith)) (λ j g. n j (omega arith)),
       )
 
-  pub report-short : Small c s → length (report c s) ≤ 11745
+  pub report-short : Small c s → length (report c s) ≤ longest
   unfolding report bytes
   report-short small =
       let z : 0 + length (c .tasks) ≡ length (c .tasks) = omega arith in
@@ -99,17 +111,17 @@ module _ (c : Setup) (s : State) where
 
 -- what is shown by numbers of 64 bits
 pub shown-small : {c : Setup} {s : State} {summary : Summary} {rows places text : List ℕ} → Shown c s summary rows places text
-    → summary .tasks ≤ 128 → summary .picks < 2 ^ 64 → summary .head < 2 ^ 64 → summary .tail < 2 ^ 64 → summary .owner < 2 ^ 64
-    → ((k : ℕ) → getD rows k 0 < 2 ^ 64) → Small c s
+    → summary .tasks ≤ layout.mostTasks → summary .picks < 2 ^ 64
+    → summary .head < 2 ^ 64 → summary .tail < 2 ^ 64 → summary .owner < 2 ^ 64 → ((k : ℕ) → getD rows k 0 < 2 ^ 64) → Small c s
 shown-small {c} {s} {summary} {rows} shown tasks picks head tail owns table =
     record {
       tasks = omega (arith, shown .count);
-      labels = λ i h. omega (arith, shown .labels .short i h, shown .labels .size i h);
+      labels = λ i h. omega (arith, shown .labels i h .short, shown .labels i h .size);
       picks = rw (shown .picks) at picks;
       head = rw (shown .head) at head;
       tail = rw (shown .tail) at tail;
       owner = λ w e. omega (arith, shown .owner ∙ ap optionCode e);
-      runner = λ i h. rw (shown .rows .runner i h) at (table (8 * i + 2));
-      receipt = λ i h. rw (shown .rows .receipt i h) at (table (8 * i + 3));
-      ending = λ i h. rw (shown .rows .ending i h) at (table (8 * i + 4));
+      runner = λ i h. rw (shown .rows .runner i h) at (table (layout.taskRow * i + layout.runner));
+      receipt = λ i h. rw (shown .rows .receipt i h) at (table (layout.taskRow * i + layout.receipt));
+      ending = λ i h. rw (shown .rows .ending i h) at (table (layout.taskRow * i + layout.ending));
     }

@@ -1,11 +1,13 @@
 // Writes the report: see specs/Report.antt for its bytes, and specs/Shown.antt for what the numbers here say of a state.
 ghost use mathlib.Core.Path.{_≡_};
 ghost use mathlib.Core.List.{List, _++_};
-ghost use Prim.Native.Nat.{ℕ, _+_, _*_, _≤_, _<_};
-ghost use lib.ListN.{length, getD, drop};
+ghost use Prim.Native.Nat.{ℕ, _≤_, _<_};
+ghost use lib.ListN.{length, drop};
 ghost use Rattle.machine.specs.State.{Setup, State};
+ghost use Rattle.memory.specs.Layout as layout;
+ghost use Rattle.memory.specs.Labels.{labelAt};
 ghost use Rattle.report.specs.Report.{report};
-ghost use Rattle.report.specs.Printed.{taskFields, rowAt, labelIn};
+ghost use Rattle.report.specs.Printed.{fieldsAt};
 ghost use Rattle.report.specs.Shown.{Shown};
 ghost use Rattle.report.specs.Writing.{fields, Room, Wrote};
 use line::lock_line_length;
@@ -14,6 +16,8 @@ use line::put_lock_line;
 use line::put_outcome_line;
 use line::put_task_line;
 use line::task_line_length;
+use memory::labels::label_of;
+use memory::rows::outcome_of;
 
 pub mod line; // line.rt: its lines
 pub mod number; // number.rt: decimal numbers
@@ -31,26 +35,6 @@ pub struct Summary {
     pub tasks: u64,
 }
 
-// What the report says of a task: its status as a number, who runs it, and at which picks it was received and ended.
-pub struct Row {
-    pub status: u64,
-    pub runner: u64,
-    pub receipt: u64,
-    pub ending: u64,
-}
-
-fn task_row(tasks: &[u64], i: usize) -> Row
-    requires { ⌜ (length (now tasks) ≡ 1024) × (i < 128) ⌝ }
-    ensures { λ r. ⌜ r ≡ rowAt (now (tasks .entry)) i ⌝ }
-{
-    Row {
-        status: tasks[8 * i + 1],
-        runner: tasks[8 * i + 2],
-        receipt: tasks[8 * i + 3],
-        ending: tasks[8 * i + 4],
-    }
-}
-
 // Writes a task's line, with its label out of the plan's text.
 fn put_task(
     i: usize,
@@ -60,21 +44,20 @@ fn put_task(
     out: &mut [u8],
     at: usize,
 ) -> usize
-    requires { ⌜ (length (now tasks) ≡ 1024) × (length (now labels) ≡ 256) × (i < 128)
-        × Room (now out) at (fields (taskFields i (labelIn (now text) (now labels) i) (rowAt (now tasks) i))) ⌝ }
+    requires { ⌜ (length (now tasks) ≡ layout.taskRows) × (length (now labels) ≡ layout.labelRows) × (i < layout.mostTasks)
+        × Room (now out) at (fields (fieldsAt (now tasks) (now labels) (now text) i)) ⌝ }
     ensures { λ r. ⌜ Wrote (now (out .entry)) at
-        (fields (taskFields i (labelIn (now (text .entry)) (now (labels .entry)) i) (rowAt (now (tasks .entry)) i))) r (now (out .exit)) ⌝ }
+        (fields (fieldsAt (now (tasks .entry)) (now (labels .entry)) (now (text .entry)) i)) r (now (out .exit)) ⌝ }
 {
-    let start = labels[2 * i] as usize;
-    let len = labels[2 * i + 1] as usize;
-    let label = reader::label(text, start, len);
-    put_task_line(i as u64, label, task_row(tasks, i), out, at)
+    let stands = label_of(labels, i);
+    let label = reader::label(text, stands.place as usize, stands.size as usize);
+    put_task_line(i as u64, label, outcome_of(tasks, i), out, at)
 }
 
 // The report's length.
 pub fn report_length(summary: Summary, tasks: &[u64], labels: &[u64]) -> usize
-    requires { ⌜ (length (now tasks) ≡ 1024) × (length (now labels) ≡ 256) × (summary .tasks ≤ 128)
-        × ((i : ℕ) → i < summary .tasks → getD (now labels) (2 * i + 1) 0 ≤ 16) ⌝ }
+    requires { ⌜ (length (now tasks) ≡ layout.taskRows) × (length (now labels) ≡ layout.labelRows) × (summary .tasks ≤ layout.mostTasks)
+        × ((i : ℕ) → i < summary .tasks → labelAt (now labels) i .size ≤ layout.mostLabel) ⌝ }
     ensures { λ r. ⌜ ((c : Setup) (s : State) (text : List ℕ) → Shown c s summary (now (tasks .entry)) (now (labels .entry)) text
         → r ≡ length (report c s)) ⌝ }
 {
@@ -83,8 +66,8 @@ pub fn report_length(summary: Summary, tasks: &[u64], labels: &[u64]) -> usize
         + lock_line_length(summary.head, summary.tail, summary.owner);
     let mut i: usize = 0;
     while i < n {
-        let len = labels[2 * i + 1] as usize;
-        total += task_line_length(i as u64, len, task_row(tasks, i));
+        let stands = label_of(labels, i);
+        total += task_line_length(i as u64, stands.size as usize, outcome_of(tasks, i));
         i += 1;
     }
     total
@@ -98,8 +81,9 @@ pub fn write_report(
     labels: &[u64],
     output: &mut [u8],
 ) -> usize
-    requires { ⌜ (length (now tasks) ≡ 1024) × (length (now labels) ≡ 256) × (summary .tasks ≤ 128)
-        × ((c : Setup) × (s : State) × Shown c s summary (now tasks) (now labels) (now text) × (length (report c s) ≤ length (now output))) ⌝ }
+    requires { ⌜ (length (now tasks) ≡ layout.taskRows) × (length (now labels) ≡ layout.labelRows) × (summary .tasks ≤ layout.mostTasks)
+        × ((c : Setup) × (s : State) × Shown c s summary (now tasks) (now labels) (now text)
+        × (length (report c s) ≤ length (now output))) ⌝ }
     ensures { λ r. ⌜ ((c : Setup) (s : State) → Shown c s summary (now (tasks .entry)) (now (labels .entry)) (now (text .entry))
         → (r ≡ length (report c s)) × (now (output .exit) ≡ report c s ++ drop (length (report c s)) (now (output .entry)))) ⌝ }
 {

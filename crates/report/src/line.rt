@@ -4,9 +4,9 @@ ghost use mathlib.Core.List.{List};
 ghost use Prim.Native.Nat.{ℕ, _≤_};
 ghost use lib.ListN.{length};
 ghost use Rattle.plan.specs.Text.{line};
+ghost use Rattle.memory.specs.Layout as layout;
 ghost use Rattle.report.specs.Printed.{outcomeFields, taskFields, lockFields};
 ghost use Rattle.report.specs.Writing.{fields, Room, Wrote};
-use crate::Row;
 use crate::number::digits;
 use crate::number::length_if;
 use crate::number::put_if;
@@ -18,6 +18,8 @@ use crate::word::put_owner;
 use crate::word::put_status;
 use crate::word::status_length;
 use crate::write::put_field;
+use memory::layout;
+use memory::rows::Outcome;
 
 pub fn outcome_line_length(finished: bool, picks: u64) -> usize
     ensures { λ r. ⌜ (r ≡ length (line (outcomeFields finished picks))) × (r ≤ 32) ⌝ }
@@ -51,29 +53,29 @@ pub fn put_lock_line(head: u64, tail: u64, owner: u64, out: &mut [u8], at: usize
 }
 
 // The line of a task whose label has so many bytes.
-pub fn task_line_length(i: u64, label: usize, row: Row) -> usize
-    requires { ⌜ label ≤ 16 ⌝ }
-    ensures { λ r. ⌜ ((bytes : List ℕ) → length bytes ≡ label → r ≡ length (line (taskFields i bytes row))) × (r ≤ 111) ⌝ }
+pub fn task_line_length(i: u64, label: usize, task: Outcome) -> usize
+    requires { ⌜ label ≤ layout.mostLabel ⌝ }
+    ensures { λ r. ⌜ ((bytes : List ℕ) → length bytes ≡ label → r ≡ length (line (taskFields i bytes task))) × (r ≤ 111) ⌝ }
 {
-    let begun = 4 <= row.status;
-    let over = 5 <= row.status;
-    let figures = length_if(begun, row.runner)
-        + length_if(begun, row.receipt)
-        + length_if(over, row.ending);
-    digits(i) + label + status_length(row.status) + figures + 8
+    let begun = layout::RUNNING <= task.status;
+    let over = layout::OVER <= task.status;
+    let figures = length_if(begun, task.runner)
+        + length_if(begun, task.receipt)
+        + length_if(over, task.ending);
+    digits(i) + label + status_length(task.status) + figures + 8
 }
 
-pub fn put_task_line(i: u64, label: &[u8], row: Row, out: &mut [u8], at: usize) -> usize
-    requires { ⌜ Room (now out) at (fields (taskFields i (now label) row)) ⌝ }
-    ensures { λ r. ⌜ Wrote (now (out .entry)) at (fields (taskFields i (now (label .entry)) row)) r (now (out .exit)) ⌝ }
+pub fn put_task_line(i: u64, label: &[u8], task: Outcome, out: &mut [u8], at: usize) -> usize
+    requires { ⌜ Room (now out) at (fields (taskFields i (now label) task)) ⌝ }
+    ensures { λ r. ⌜ Wrote (now (out .entry)) at (fields (taskFields i (now (label .entry)) task)) r (now (out .exit)) ⌝ }
 {
-    let begun = 4 <= row.status;
-    let over = 5 <= row.status;
+    let begun = layout::RUNNING <= task.status;
+    let over = layout::OVER <= task.status;
     let next = put_field(b"T", b'\t', out, at);
     let next = put_number(i, b'\t', out, next);
     let next = put_field(label, b'\t', out, next);
-    let next = put_status(row.status, out, next);
-    let next = put_if(begun, row.runner, b'\t', out, next);
-    let next = put_if(begun, row.receipt, b'\t', out, next);
-    put_if(over, row.ending, b'\n', out, next)
+    let next = put_status(task.status, out, next);
+    let next = put_if(begun, task.runner, b'\t', out, next);
+    let next = put_if(begun, task.receipt, b'\t', out, next);
+    put_if(over, task.ending, b'\n', out, next)
 }

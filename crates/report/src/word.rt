@@ -7,6 +7,7 @@ ghost use Rattle.report.specs.Writing.{field, Room, Wrote};
 use crate::number::digits;
 use crate::number::put_number;
 use crate::write::put_field;
+use memory::layout;
 
 pub fn outcome_length(finished: bool) -> usize
     ensures { λ r. ⌜ (r ≡ length (outcomeWord finished)) × (r ≤ 8) ⌝ }
@@ -28,11 +29,11 @@ pub fn status_length(status: u64) -> usize
     ensures { λ r. ⌜ (r ≡ length (statusWord status)) × (r ≤ 7) ⌝ }
 {
     match status {
-        0 => 3,
-        1 => 7,
-        2 => 5,
-        3 => 4,
-        4 => 3,
+        layout::NEW => 3,
+        layout::WAITING => 7,
+        layout::READY => 5,
+        layout::HELD => 4,
+        layout::RUNNING => 3,
         _ => 4,
     }
 }
@@ -42,11 +43,11 @@ pub fn put_status(status: u64, out: &mut [u8], at: usize) -> usize
     ensures { λ r. ⌜ Wrote (now (out .entry)) at (field (statusWord status) 9) r (now (out .exit)) ⌝ }
 {
     match status {
-        0 => put_field(b"new", b'\t', out, at),
-        1 => put_field(b"waiting", b'\t', out, at),
-        2 => put_field(b"ready", b'\t', out, at),
-        3 => put_field(b"held", b'\t', out, at),
-        4 => put_field(b"run", b'\t', out, at),
+        layout::NEW => put_field(b"new", b'\t', out, at),
+        layout::WAITING => put_field(b"waiting", b'\t', out, at),
+        layout::READY => put_field(b"ready", b'\t', out, at),
+        layout::HELD => put_field(b"held", b'\t', out, at),
+        layout::RUNNING => put_field(b"run", b'\t', out, at),
         _ => put_field(b"over", b'\t', out, at),
     }
 }

@@ -30,7 +30,8 @@ module _ {S : Type 0} (step : S → ℕ → S) (Inv Goal : S → Type 0) (At : �
         go j e l (turn s r w x b (p 0 (omega arith)) v h)
         (soon xs (picks-drop W 1 (x ∷ xs) p) (regular-drop W B 1 (x ∷ xs) q) (step s x) (keeps s x (p 0 (omega arith)) v))
       where
-        go : (j : ℕ) → pick (x ∷ xs) j ≡ w → suc j + r * B ≤ length (x ∷ xs) → Turn Goal At W r w x (step s x) → Soon xs (step s x) → Within step Goal (suc j + r * B) (x ∷ xs) s
+        go : (j : ℕ) → pick (x ∷ xs) j ≡ w → suc j + r * B ≤ length (x ∷ xs) → Turn Goal At W r w x (step s x) → Soon xs (step s x)
+            → Within step Goal (suc j + r * B) (x ∷ xs) s
         go j e l (reaches g) k = (1, omega arith, omega arith, g)
         go j e l (nearer u y a c f) k =
             let (i, d, o) = regular-first W B xs (regular-drop W B 1 (x ∷ xs) q) (omega (arith, mul-le-mul-right B a)) y c in
@@ -38,15 +39,18 @@ module _ {S : Type 0} (step : S → ℕ → S) (Inv Goal : S → Type 0) (At : �
             (k u y i c f o (omega (arith, mul-le-mul-right B a)))
         go zero e l (waits n f) k = absurd (n e)
         go (suc j) e l (waits n f) k =
-            within-later step Goal 1 (suc j + r * B) (suc (suc j) + r * B) (x ∷ xs) s (omega arith) (omega arith) (k r w j b f e (omega arith))
+            within-later step Goal 1 (suc j + r * B) (suc (suc j) + r * B) (x ∷ xs) s (omega arith) (omega arith)
+            (k r w j b f e (omega arith))
 
     -- a regular list that is long enough reaches the goal within (r + 1) * B picks
-    pub fair : (xs : List ℕ) → Picks W xs → Regular W B xs → (s : S) → Inv s → (r w : ℕ) → w < W → At r w s → suc r * B ≤ length xs → Within step Goal (suc r * B) xs s
+    pub fair : (xs : List ℕ) → Picks W xs → Regular W B xs → (s : S) → Inv s → (r w : ℕ) → w < W → At r w s → suc r * B ≤ length xs
+        → Within step Goal (suc r * B) xs s
     fair xs p q s v r w b h l =
         let (j, c, e) = regular-first W B xs q (omega arith) w b in
         within-later step Goal 0 (suc j + r * B) (suc r * B) xs s (omega arith) (omega arith)
         (soon xs p q s v r w j b h e (omega arith))
 
     -- a regular list of any length reaches it so, or is too short
-    pub fair-to : (xs : List ℕ) → Picks W xs → Regular W B xs → (s : S) → Inv s → (r w : ℕ) → w < W → At r w s → Within step Goal (suc r * B) xs s ⊎ (length xs < suc r * B)
+    pub fair-to : (xs : List ℕ) → Picks W xs → Regular W B xs → (s : S) → Inv s → (r w : ℕ) → w < W → At r w s
+        → Within step Goal (suc r * B) xs s ⊎ (length xs < suc r * B)
     fair-to xs p q s v r w b h = ⊎-elim inr (λ l. inl (fair xs p q s v r w b h l)) (order (length xs) (suc r * B))

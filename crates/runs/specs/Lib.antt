@@ -1,6 +1,13 @@
 pub mod Update
 pub mod Sums
 pub mod Counts
+pub mod Below
+pub mod Searches
+pub mod Members
 pub mod Picks
 pub mod Fair
 pub mod Rounds
+pub mod Traces
+pub mod Near
+pub mod Circular
+pub mod Stores

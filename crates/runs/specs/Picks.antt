@@ -36,7 +36,8 @@ regular-drop W B n xs r i w l b = go (order (length xs) n)
     go : (length xs < n) ⊎ (n ≤ length xs) → (j : ℕ) × (j < B) × (pick (drop n xs) (i + j) ≡ w)
     -- nothing is left, so B would be 0, and with a worker no list is regular then
     go (inl o) = absurd (omega (arith, length-drop n xs, (r 0 w (omega (arith, length-drop n xs)) b) .1))
-    go (inr o) = let (j, k, e) = r (n + i) w (omega (arith, length-drop n xs)) b in (j, k, getD-drop n xs (i + j) 0 ∙ ap (pick xs) (omega arith) ∙ e)
+    go (inr o) =
+        let (j, k, e) = r (n + i) w (omega (arith, length-drop n xs)) b in (j, k, getD-drop n xs (i + j) 0 ∙ ap (pick xs) (omega arith) ∙ e)
 
 -- each worker is among the first B picks
 pub regular-first : (W B : ℕ) (xs : List ℕ) → Regular W B xs → B ≤ length xs → (w : ℕ) → w < W → (j : ℕ) × (j < B) × (pick xs j ≡ w)
@@ -58,7 +59,8 @@ module _ {S : Type 0} (step : S → ℕ → S) where
   run-drop s n xs = sym (ap (run s) (take-append-drop n xs)) ∙ run-append s (take n xs) (drop n xs)
 
   -- what every step keeps, every run keeps
-  pub run-keeps : (W : ℕ) (Inv : S → Type 0) → ((s : S) (x : ℕ) → x < W → Inv s → Inv (step s x)) → (xs : List ℕ) → Picks W xs → (s : S) → Inv s → Inv (run s xs)
+  pub run-keeps : (W : ℕ) (Inv : S → Type 0) → ((s : S) (x : ℕ) → x < W → Inv s → Inv (step s x)) → (xs : List ℕ) → Picks W xs → (s : S)
+      → Inv s → Inv (run s xs)
   run-keeps W Inv keeps [] p s v = v
   run-keeps W Inv keeps (x ∷ xs) p s v = run-keeps W Inv keeps xs (picks-drop W 1 (x ∷ xs) p) (step s x) (keeps s x (p 0 (omega arith)) v)
 
@@ -67,5 +69,6 @@ module _ {S : Type 0} (step : S → ℕ → S) where
   Within Goal m xs s = (n : ℕ) × (n ≤ m) × (n ≤ length xs) × Goal (run s (take n xs))
 
   -- n picks made, and m more are enough
-  pub within-later : (Goal : S → Type 0) (n m k : ℕ) (xs : List ℕ) (s : S) → n ≤ length xs → n + m ≤ k → Within Goal m (drop n xs) (run s (take n xs)) → Within Goal k xs s
+  pub within-later : (Goal : S → Type 0) (n m k : ℕ) (xs : List ℕ) (s : S) → n ≤ length xs → n + m ≤ k
+      → Within Goal m (drop n xs) (run s (take n xs)) → Within Goal k xs s
   within-later Goal n m k xs s l h (i, a, b, g) = (n + i, omega arith, omega (arith, length-drop n xs), rw run-take g)

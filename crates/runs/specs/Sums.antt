@@ -30,6 +30,12 @@ unfolding sum
 sum-const zero c = omega arith
 sum-const (suc n) c = omega (arith, sum-const n c)
 
+pub sum-zeros : (n : ℕ) (f : ℕ → ℕ) → ((k : ℕ) → k < n → f k ≡ 0) → sum n f ≡ 0
+sum-zeros n f h = omega (arith, sum-same n f (λ k. 0) h, sum-const n 0)
+
+pub sum-ones : (n : ℕ) (f : ℕ → ℕ) → ((k : ℕ) → k < n → f k ≡ 1) → sum n f ≡ n
+sum-ones n f h = omega (arith, sum-same n f (λ k. 1) h, sum-const n 1)
+
 -- two functions that differ at w alone
 pub sum-at : (n : ℕ) (f g : ℕ → ℕ) (w : ℕ) → w < n → ((k : ℕ) → k < n → k ≢ w → g k ≡ f k) → sum n g + f w ≡ sum n f + g w
 unfolding sum
@@ -41,7 +47,8 @@ sum-at (suc n) f g w l h =
     (same w n)
 
 -- a measure m of the values of a function that is updated
-pub sum-upd : {A : Type 0} (n : ℕ) (m : A → ℕ) (f : ℕ → A) (w : ℕ) (a : A) → w < n → sum n (λ k. m (upd f w a k)) + m (f w) ≡ sum n (λ k. m (f k)) + m a
+pub sum-upd : {A : Type 0} (n : ℕ) (m : A → ℕ) (f : ℕ → A) (w : ℕ) (a : A) → w < n
+    → sum n (λ k. m (upd f w a k)) + m (f w) ≡ sum n (λ k. m (f k)) + m a
 sum-upd n m f w a l =
     sum-at n (λ k. m (f k)) (λ k. m (upd f w a k)) w l (λ k b e. ap m (upd-other f w a k e))
     ∙ ap (λ x. sum n (λ k. m (f k)) + m x) (upd-same f w a)
@@ -77,7 +84,8 @@ pos-sum (suc n) f h =
 pub fits : (n W : ℕ) (g : ℕ → ℕ) → ((i : ℕ) → i < n → g i < W) → ((i j : ℕ) → i < n → j < n → g i ≡ g j → i ≡ j) → n ≤ W
 fits zero W g b d = omega arith
 fits (suc n) zero g b d = absurd (omega (arith, b n (omega arith)))
-fits (suc n) (suc m) g b d = omega (arith, fits n m (λ i. move (g i)) (λ i l. below i l (same (g i) m)) (λ i j l k. apart i j l k (same (g i) m) (same (g j) m)))
+fits (suc n) (suc m) g b d =
+    omega (arith, fits n m (λ i. move (g i)) (λ i l. below i l (same (g i) m)) (λ i j l k. apart i j l k (same (g i) m) (same (g j) m)))
   where
     move : ℕ → ℕ
     move = upd (λ y. y) m (g n)

@@ -30,6 +30,10 @@ order a b = go (ltb a b) refl
     go true e = inl (ltb-true a b e)
     go false e = inr (ltb-false a b e)
 
+-- less, equal or more
+pub by-order : {C : Type 0} (a b : ℕ) → (a < b → C) → (a ≡ b → C) → (b < a → C) → C
+by-order a b less equal more = ⊎-elim less (λ (k : b ≤ a). ⊎-elim more (λ (l : a ≤ b). equal (omega arith)) (order b a)) (order a b)
+
 module _ {A : Type 0} where
   -- `f`, but `a` at `i`
   unfoldable pub upd : (ℕ → A) → ℕ → A → ℕ → A
@@ -56,11 +60,13 @@ module _ {A : Type 0} where
 
   -- of two updates at one place the later one stands
   pub upd-upd : (f : ℕ → A) (w : ℕ) (a b : A) → upd (upd f w a) w b ≡ upd f w b
-  upd-upd f w a b = upd-only f w b (upd (upd f w a) w b) (upd-same (upd f w a) w b) (λ v n. upd-other (upd f w a) w b v n ∙ upd-other f w a v n)
+  upd-upd f w a b =
+      upd-only f w b (upd (upd f w a) w b) (upd-same (upd f w a) w b) (λ v n. upd-other (upd f w a) w b v n ∙ upd-other f w a v n)
 
   -- a store into an array
   pub array-upd : (l : List A) (i : ℕ) (a d : A) → i < length l → _≡_ {A = ℕ → A} (λ k. getD (set l i a) k d) (upd (λ k. getD l k d) i a)
-  array-upd l i a d h = upd-only (λ k. getD l k d) i a (λ k. getD (set l i a) k d) (getD-set-same l i a d h) (λ k n. getD-set-other l i k a d n)
+  array-upd l i a d h =
+      upd-only (λ k. getD l k d) i a (λ k. getD (set l i a) k d) (getD-set-same l i a d h) (λ k n. getD-set-other l i k a d n)
 
 module _ {A B : Type 0} where
   -- two functions that change at one place

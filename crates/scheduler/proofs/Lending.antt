@@ -1,21 +1,18 @@
--- A worker's share lent out of the store: what is lent, and the store once it is back.
+-- A worker's share, or the device's part of it, lent out of the store: what is lent, and the store once it is back.
 use Prim.Native.Nat.{ℕ, _+_, _-_, _*_, _≤_, _<_}
+use native.Mathlib.Omega.{arith}
 use mathlib.Core.Path.{_≡_, sym, ap, _∙_}
 use mathlib.Core.Logic.{_≢_, ⊎-elim}
 use mathlib.Core.List.{List, _++_, append-assoc}
-use native.Mathlib.Omega.{arith}
-use lib.ListN.{length, take, drop, length-append, length-drop, take-append-drop}
-use lib.Seq.{length-take-le, take-append-le, drop-append-le, take-at, drop-at, drop-drop}
+use lib.ListN.{length, getD, take, drop, length-append, length-take, length-drop, take-append-drop}
+use lib.Seq.{length-take-le, take-append-le, drop-append-le, take-at, drop-at, drop-drop, take-take, take-add, getD-take, getD-drop}
 use Rattle.runs.specs.Update.{order, upd, upd-only}
-use Rattle.scheduler.specs.Shares.{share}
+use Rattle.steps.specs.Layout.{shareSize, partSize, stationSize, mostWorkers, sharesSize}
+use Rattle.steps.specs.Memory.{share, part, station}
 
 -- the list s with the k numbers from a on replaced by y, as a loan of s[a..a + k] gives it back
 abbrev pub put : ℕ → ℕ → List ℕ → List ℕ → List ℕ
 put a k s y = take a s ++ (y ++ drop k (drop a s))
-
--- the code writes the length of a part as its end less its start
-pub span : (a : ℕ) → a + 256 - a ≡ 256
-span a = omega arith
 
 -- a part that lies in the first of two lists
 part-front : (b n : ℕ) (xs ys : List ℕ) → b + n ≤ length xs → take n (drop b (xs ++ ys)) ≡ take n (drop b xs)
@@ -27,49 +24,176 @@ module _ (a k : ℕ) (s y : List ℕ) (fits : a + k ≤ length s) (long : length
   front : length (take a s) ≡ a
   front = length-take-le a s (omega arith)
 
-  pub put-length : length (put a k s y) ≡ length s
+  put-length : length (put a k s y) ≡ length s
   put-length = simp (length-append, length-drop, front) (omega arith)
 
-  pub put-before : (b n : ℕ) → b + n ≤ a → take n (drop b (put a k s y)) ≡ take n (drop b s)
+  put-before : (b n : ℕ) → b + n ≤ a → take n (drop b (put a k s y)) ≡ take n (drop b s)
   put-before b n before =
       let inside : b + n ≤ length (take a s) = rw front before in
-      part-front b n (take a s) (y ++ drop k (drop a s)) inside ∙ sym (rw (take-append-drop a s) at (part-front b n (take a s) (drop a s) inside))
+      let old = rw (take-append-drop a s) at (part-front b n (take a s) (drop a s) inside) in
+      part-front b n (take a s) (y ++ drop k (drop a s)) inside ∙ sym old
 
-  pub put-same : take k (drop a (put a k s y)) ≡ y
+  put-same : take k (drop a (put a k s y)) ≡ y
   put-same = rw (drop-at (take a s) (y ++ drop k (drop a s)) a front) (take-at y (drop k (drop a s)) k long)
 
-  pub put-past : (m : ℕ) → a + k ≤ m → drop m (put a k s y) ≡ drop m s
+  put-past : (m : ℕ) → a + k ≤ m → drop m (put a k s y) ≡ drop m s
   put-past m past =
       let whole : length (take a s ++ y) ≡ a + k = simp (length-append, front, long) in
-      let rest : drop (a + k) (put a k s y) ≡ drop (a + k) s = rw (← append-assoc (take a s) y (drop k (drop a s))) (drop-at (take a s ++ y) (drop k (drop a s)) (a + k) whole ∙ drop-drop k a s) in
+      let rest : drop (a + k) (put a k s y) ≡ drop (a + k) s =
+      rw (← append-assoc (take a s) y (drop k (drop a s))) (drop-at (take a s ++ y) (drop k (drop a s)) (a + k) whole ∙ drop-drop k a s) in
       let split : m ≡ a + k + (m - (a + k)) = omega arith in
       rw split (sym (drop-drop (m - (a + k)) (a + k) (put a k s y)) ∙ ap (drop (m - (a + k))) rest ∙ drop-drop (m - (a + k)) (a + k) s)
 
-module _ (store : List ℕ) (w : ℕ) (few : w < 32) (long : 8192 ≤ length store) where
-  pub share-length : length (share store w) ≡ 256
+-- where the share of worker w starts, where the device's part of it does, and where both end
+abbrev from : ℕ → ℕ
+from w = w * shareSize
+
+abbrev device : ℕ → ℕ
+device w = w * shareSize + partSize
+
+abbrev end : ℕ → ℕ
+end w = w * shareSize + shareSize
+
+-- the share as the code lends it, and the device's part of it
+abbrev lent : List ℕ → ℕ → List ℕ
+lent store w = take (end w - from w) (drop (from w) store)
+
+abbrev lent-device : List ℕ → ℕ → List ℕ
+lent-device store w = take (end w - device w) (drop (device w) store)
+
+-- a number of a share, where the store has it
+share-at : (store : List ℕ) (w i : ℕ) → i < shareSize → getD (share store w) i 0 ≡ getD store (from w + i) 0
+unfolding share
+share-at store w i small = getD-take shareSize (drop (from w) store) i 0 small ∙ getD-drop (from w) store i 0
+
+-- and one of the device's part
+pub station-number : (store : List ℕ) (w i : ℕ) → i < stationSize → getD (share store w) (partSize + i) 0 ≡ getD store (device w + i) 0
+station-number store w i small =
+    let place : from w + (partSize + i) ≡ device w + i = omega arith in
+    share-at store w (partSize + i) (omega arith) ∙ ap (λ (k : ℕ). getD store k 0) place
+
+-- the shares, but z for the device's part of worker w
+abbrev pub withStation : (ℕ → List ℕ) → ℕ → List ℕ → ℕ → List ℕ
+withStation shares w z = upd shares w (part (shares w) ++ z)
+
+module _ (store : List ℕ) (w : ℕ) (few : w < mostWorkers) (long : sharesSize ≤ length store) where
+  pub share-length : length (share store w) ≡ shareSize
   unfolding share
-  share-length = length-take-le 256 (drop (w * 256) store) (simp length-drop (omega arith))
+  share-length = length-take-le shareSize (drop (from w) store) (simp length-drop (omega arith))
 
-  -- the part that the code lends
-  pub share-lent : take (w * 256 + 256 - w * 256) (drop (w * 256) store) ≡ share store w
+  -- the code writes the length of a part as its end less its start
+  size : end w - from w ≡ shareSize
+  size = omega arith
+
+  size-device : end w - device w ≡ stationSize
+  size-device = omega arith
+
+  -- ---- what is lent
+
+  pub share-lent : lent store w ≡ share store w
   unfolding share
-  share-lent = rw (span (w * 256))
+  share-lent = rw size
 
-  -- what comes back is as long as what was lent
-  pub share-back : (y : List ℕ) → length y ≡ length (take (w * 256 + 256 - w * 256) (drop (w * 256) store)) → length y ≡ 256
-  share-back y back = rw share-lent at back ∙ share-length
+  pub station-lent : lent-device store w ≡ station (share store w)
+  unfolding share
+  station-lent =
+      let own = drop (from w) store in
+      let front-part : length (take partSize own) ≡ partSize = length-take-le partSize own (simp length-drop (omega arith)) in
+      rw (size-device, ← drop-drop partSize (from w) store, take-add partSize stationSize own)
+      (sym (drop-at (take partSize own) (take stationSize (drop partSize own)) partSize front-part))
 
-  module _ (y : List ℕ) (size : length y ≡ 256) where
-    pub share-put-length : length (put (w * 256) 256 store y) ≡ length store
-    share-put-length = put-length (w * 256) 256 store y (omega arith) size
+  -- ---- the store with another share
+
+  module _ (y : List ℕ) (fits : length y ≡ shareSize) where
+    abbrev whole : List ℕ
+    whole = put (from w) shareSize store y
+
+    whole-length : length whole ≡ length store
+    whole-length = put-length (from w) shareSize store y (omega arith) fits
 
     -- what the store has behind the shares
-    pub share-put-later : drop 8192 (put (w * 256) 256 store y) ≡ drop 8192 store
-    share-put-later = put-past (w * 256) 256 store y (omega arith) size 8192 (omega arith)
+    whole-later : drop sharesSize whole ≡ drop sharesSize store
+    whole-later = put-past (from w) shareSize store y (omega arith) fits sharesSize (omega arith)
 
-    pub share-upd : share (put (w * 256) 256 store y) ≡ upd (share store) w y
+    whole-shares : share whole ≡ upd (share store) w y
     unfolding share
-    share-upd = upd-only (share store) w y (share (put (w * 256) 256 store y)) (put-same (w * 256) 256 store y (omega arith) size) other
+    whole-shares = upd-only (share store) w y (share whole) (put-same (from w) shareSize store y (omega arith) fits) other
       where
-        other : (v : ℕ) → v ≢ w → share (put (w * 256) 256 store y) v ≡ share store v
-        other v apart = ⊎-elim (λ (less : v < w). put-before (w * 256) 256 store y (omega arith) size (v * 256) 256 (omega arith)) (λ (most : w ≤ v). ap (take 256) (put-past (w * 256) 256 store y (omega arith) size (v * 256) (omega arith))) (order v w)
+        other : (v : ℕ) → v ≢ w → share whole v ≡ share store v
+        other v apart =
+            ⊎-elim
+            (λ (less : v < w). put-before (from w) shareSize store y (omega arith) fits (from v) shareSize (omega arith))
+            (λ (most : w ≤ v). ap (take shareSize) (put-past (from w) shareSize store y (omega arith) fits (from v) (omega arith)))
+            (order v w)
+
+  -- ---- the store once a share is back
+
+  module _ (y : List ℕ) (back : length y ≡ length (lent store w)) where
+    long-back : length y ≡ shareSize
+    long-back = back ∙ ap length share-lent ∙ share-length
+
+    abbrev returned : List ℕ
+    returned = put (from w) (end w - from w) store y
+
+    pub returned-shares : share returned ≡ upd (share store) w y
+    returned-shares = rw size (whole-shares y long-back)
+
+    pub returned-later : drop sharesSize returned ≡ drop sharesSize store
+    returned-later = rw size (whole-later y long-back)
+
+  -- ---- and once the device's part of one is back
+
+  device-put : (z : List ℕ) → put (device w) stationSize store z ≡ put (from w) shareSize store (part (share store w) ++ z)
+  unfolding share
+  device-put z =
+      let own = drop (from w) store in
+      let reaches : device w + stationSize ≡ end w = omega arith in
+      let behind : drop stationSize (drop (device w) store) ≡ drop shareSize own =
+      drop-drop stationSize (device w) store ∙ ap (λ (i : ℕ). drop i store) reaches ∙ sym (drop-drop shareSize (from w) store) in
+      rw (behind, take-add (from w) partSize store, take-take partSize shareSize own (omega arith), append-assoc, append-assoc)
+
+  module _ (z : List ℕ) (back : length z ≡ length (lent-device store w)) where
+    abbrev own-with : List ℕ
+    own-with = part (share store w) ++ z
+
+    long-with : length own-with ≡ shareSize
+    long-with =
+        let own = share store w in
+        let long-z : length z ≡ length (station own) = back ∙ ap length station-lent in
+        omega (arith, length-append (part own) z, long-z, length-take partSize own, length-drop partSize own, share-length)
+
+    abbrev replaced : List ℕ
+    replaced = put (device w) (end w - device w) store z
+
+    pub replaced-length : length replaced ≡ length store
+    replaced-length = rw (size-device, device-put z) (whole-length own-with long-with)
+
+    pub replaced-shares : share replaced ≡ withStation (share store) w z
+    replaced-shares = rw (size-device, device-put z) (whole-shares own-with long-with)
+
+    pub replaced-later : drop sharesSize replaced ≡ drop sharesSize store
+    replaced-later = rw (size-device, device-put z) (whole-later own-with long-with)
+
+-- the device's part of worker k lent, and then that of worker w, which may be the same
+module _ (store : List ℕ) (k w : ℕ) (low : k < mostWorkers) (few : w < mostWorkers) (long : sharesSize ≤ length store)
+    (one : List ℕ) (back : length one ≡ length (lent-device store k)) where
+  abbrev first : List ℕ
+  first = put (device k) (end k - device k) store one
+
+  first-long : sharesSize ≤ length first
+  first-long = omega (arith, replaced-length store k low long one back)
+
+  pub second-lent : lent-device first w ≡ station (withStation (share store) k one w)
+  second-lent = station-lent first w few first-long ∙ ap (λ (f : ℕ → List ℕ). station (f w)) (replaced-shares store k low long one back)
+
+  module _ (two : List ℕ) (back2 : length two ≡ length (lent-device first w)) where
+    abbrev second : List ℕ
+    second = put (device w) (end w - device w) first two
+
+    pub both-shares : share second ≡ withStation (withStation (share store) k one) w two
+    both-shares =
+        replaced-shares first w few first-long two back2
+        ∙ ap (λ (f : ℕ → List ℕ). withStation f w two) (replaced-shares store k low long one back)
+
+    pub both-later : drop sharesSize second ≡ drop sharesSize store
+    both-later = replaced-later first w few first-long two back2 ∙ replaced-later store k low long one back

@@ -1,6 +1,2 @@
-pub mod Circular
-pub mod Codes
-pub mod Shares
-pub mod Rows
-pub mod Labels
-pub mod Memory
+pub mod Lent
+pub mod Starting

@@ -4,15 +4,14 @@ use mathlib.Core.Path.{_≡_, refl, sym, ap, _∙_}
 use mathlib.Core.Bool.{cond, false}
 use mathlib.Core.List.{List, [], _∷_, _++_, map}
 use native.Mathlib.Omega.{arith}
-use lib.ListN.{length, getD, take, drop, length-append, List·getD-append}
+use lib.ListN.{length, getD, take, length-append, List·getD-append}
 use lib.Seq.{getD-append-add}
 use lib.Dec.{eqb}
 use Rattle.plan.specs.Plan.{Access, Task, Plan}
 use Rattle.plan.specs.Reading.{reading, accepted}
 use Rattle.plan.specs.Accepted.{WellFormed, accepted-well-formed}
-use Rattle.machine.specs.Accesses.{accesses, taskAt, accessAt, first, reader}
-use Rattle.machine.specs.Safety.LinkLaws.{Links}
-use Rattle.machine.specs.Safety.Links.{links}
+use Rattle.tasks.specs.Accesses.{accesses, taskAt, accessAt, first, reader}
+use Rattle.tasks.specs.Promise.{first-suc, first-all, first-mono, of-task}
 use Rattle.reader.specs.declared.Row.{Row}
 use Rattle.reader.specs.declared.ReadPlan.{ReadPlan}
 use Rattle.reader.specs.declared.line.Touch.{Touch}
@@ -20,6 +19,8 @@ use Rattle.reader.specs.PassLines.{accessIn, nowhere}
 use Rattle.reader.specs.PassTexts.{emptyRow, taskIn, sizedIn, sized}
 use Rattle.reader.specs.Verdict.{Says}
 use Rattle.reader.proofs.Rows.{row-says, rows-say}
+use Rattle.memory.specs.Layout as layout
+use Rattle.memory.specs.Labels.{LabelOf}
 use Rattle.tables.specs.Laid.{IsAccess, AreAccesses}
 use Rattle.tables.specs.Tables.{Readable}
 
@@ -28,17 +29,21 @@ use Rattle.tables.specs.Tables.{Readable}
 abbrev nothing : Access
 nothing = record { writes = false; address = 0 }
 
-access-of : (ts : List Task) (i k : ℕ) → i < length ts → k < length (taskAt ts i .accesses) → accessAt ts (first ts i + k) ≡ getD (taskAt ts i .accesses) k nothing
+access-of : (ts : List Task) (i k : ℕ) → i < length ts → k < length (taskAt ts i .accesses)
+    → accessAt ts (first ts i + k) ≡ getD (taskAt ts i .accesses) k nothing
 unfolding accesses first
 access-of [] i k l h = absurd (omega arith)
-access-of (t ∷ ts) zero k l h = ap (λ x. getD (t .accesses ++ accesses ts) x nothing) (let e : 0 + k ≡ k = omega arith in e) ∙ List·getD-append (t .accesses) (accesses ts) nothing k h
+access-of (t ∷ ts) zero k l h =
+    let e : 0 + k ≡ k = omega arith in
+    rw e (List·getD-append (t .accesses) (accesses ts) nothing k h)
 access-of (t ∷ ts) (suc i) k l h =
     let before = accesses (take i ts) in
-    ap (λ x. getD (t .accesses ++ accesses ts) x nothing) (let e : length (t .accesses ++ before) + k ≡ length (t .accesses) + (length before + k) = omega (arith, length-append (t .accesses) before) in e)
-    ∙ getD-append-add (t .accesses) (accesses ts) (length before + k) nothing
-    ∙ access-of ts i k (omega arith) h
+    let e : length (t .accesses ++ before) + k ≡ length (t .accesses) + (length before + k) =
+    omega (arith, length-append (t .accesses) before) in
+    rw e (getD-append-add (t .accesses) (accesses ts) (length before + k) nothing ∙ access-of ts i k (omega arith) h)
 
-map-at : {A B : Type 0} (f : A → B) (xs : List A) (n k : ℕ) (a : A) (b : B) → k < length (map f (take n xs)) → getD (map f (take n xs)) k b ≡ f (getD xs k a)
+map-at : {A B : Type 0} (f : A → B) (xs : List A) (n k : ℕ) (a : A) (b : B) → k < length (map f (take n xs))
+    → getD (map f (take n xs)) k b ≡ f (getD xs k a)
 map-at f [] zero k a b l = absurd (omega arith)
 map-at f [] (suc n) k a b l = absurd (omega arith)
 map-at f (x ∷ xs) zero k a b l = absurd (omega arith)
@@ -50,15 +55,14 @@ pub one-access : (ts : List Task) (i at n k : ℕ) (touches : List Touch) → Ar
 unfolding reader
 one-access ts i at n k touches h l =
     record {
-      links = h .links;
-      low = omega (arith, ends, h .links .first-mono (suc i) (length ts) (h .low), h .links .first-all (length ts) (omega arith));
-      of = h .links .of-task (at + k) i (h .low) (omega (arith, h .begins)) (omega (arith, ends));
+      low = omega (arith, ends, first-mono ts (suc i) (length ts) (h .low), first-all ts (length ts) (omega arith));
+      of = of-task ts (at + k) i (h .low) (omega (arith, h .begins)) (omega (arith, ends));
       kind = ap (λ (x : Access). cond (x .writes) 0 1) is;
       at = ap (λ (x : Access). x .address) is;
     }
   where
     ends : first ts (suc i) ≡ at + n
-    ends = omega (arith, h .links .first-suc i (h .low), h .begins, h .count)
+    ends = omega (arith, first-suc ts i (h .low), h .begins, h .count)
 
     is : accessAt ts (at + k) ≡ accessIn (getD touches k nowhere)
     is =
@@ -86,34 +90,33 @@ module _ (text : List ℕ) (p : Plan) (r : ReadPlan) (e : reading text ≡ accep
   pub formed : WellFormed p
   formed = accepted-well-formed text p e
 
-  pub linked : Links (p .tasks)
-  linked = links (p .tasks) (λ i l. formed .tasks i l blank .addresses-once)
-
   -- the row of a task
   pub record RowSays (i : ℕ) (row : Row) : Type 0 where
-    pub label : take (row .len) (drop (row .label) text) ≡ taskAt (p .tasks) i .label
-    pub len : row .len ≡ length (taskAt (p .tasks) i .label)
-    pub short : row .len ≤ 16
+    pub label : LabelOf (taskAt (p .tasks) i) text (record { place = row .label; size = row .len })
     pub cost : row .cost ≡ taskAt (p .tasks) i .cost
     pub touched : row .touched ≡ length (taskAt (p .tasks) i .accesses)
-    pub few : row .touched ≤ 4
+    pub few : row .touched ≤ layout.mostTaskAccesses
     pub accesses : (at : ℕ) → at ≡ first (p .tasks) i → AreAccesses (p .tasks) i at (row .touched) (row .accesses)
 
   -- whatever stands for a row past the end
   pub says-row : (i : ℕ) (d : Row) → i < length (p .tasks) → RowSays i (getD (r .rows) i d)
   says-row i d l =
-      let known : i < length (r .rows) = omega (arith, short-map (taskIn text) (r .tasks) (r .rows), ap length (rows-say text r p says)) in
-      let all : sizedIn text (getD (r .rows) i d) ≡ sized (taskAt (p .tasks) i) = ap (sizedIn text) (any-default (r .rows) i d emptyRow known) ∙ row-says text r p says i blank l in
+      let known : i < length (r .rows) =
+      omega (arith, short-map (taskIn text) (r .tasks) (r .rows), ap length (rows-say text r p says)) in
+      let all : sizedIn text (getD (r .rows) i d) ≡ sized (taskAt (p .tasks) i) =
+      ap (sizedIn text) (any-default (r .rows) i d emptyRow known) ∙ row-says text r p says i blank l in
       record {
-        label = ap (λ (x : Task × ℕ × ℕ). x .0 .label) all;
-        len = ap (λ (x : Task × ℕ × ℕ). x .1) all;
-        short = omega (arith, ap (λ (x : Task × ℕ × ℕ). x .1) all, formed .tasks i l blank .label-short);
+        label =
+            record {
+              label = ap (λ (x : Task × ℕ × ℕ). x .0 .label) all;
+              size = ap (λ (x : Task × ℕ × ℕ). x .1) all;
+              short = omega (arith, ap (λ (x : Task × ℕ × ℕ). x .1) all, formed .tasks i l blank .label-short);
+            };
         cost = ap (λ (x : Task × ℕ × ℕ). x .0 .cost) all;
         touched = ap (λ (x : Task × ℕ × ℕ). x .2) all;
         few = omega (arith, ap (λ (x : Task × ℕ × ℕ). x .2) all, formed .tasks i l blank .accesses-few);
         accesses = λ at begin.
             record {
-              links = linked;
               low = l;
               begins = sym begin;
               count = sym (ap (λ (x : Task × ℕ × ℕ). x .2) all);
@@ -121,17 +124,17 @@ module _ (text : List ℕ) (p : Plan) (r : ReadPlan) (e : reading text ≡ accep
             };
       }
 
-  pub first-next : (i : ℕ) (row : Row) → i < length (p .tasks) → RowSays i row → first (p .tasks) i + row .touched ≡ first (p .tasks) (suc i)
-  first-next i row l h = omega (arith, linked .first-suc i l, h .touched)
+  pub first-next : (i : ℕ) (row : Row) → i < length (p .tasks) → RowSays i row
+      → first (p .tasks) i + row .touched ≡ first (p .tasks) (suc i)
+  first-next i row l h = omega (arith, first-suc (p .tasks) i l, h .touched)
 
 -- what the code reads past the end of the rows
 abbrev pub noRow : Row
 noRow = record { label = 0; len = 0; cost = 0; touched = 0; accesses = [] }
 
--- ---- what keeps the stores within the arrays
-
-pub few-tasks : (r : ReadPlan) → Readable r → r .tasks ≤ 128
-few-tasks r (text, p, e, says) = omega (arith, says .count, formed text p r e says .tasks-few)
-
-pub few-accesses : (r : ReadPlan) → Readable r → (i : ℕ) (d : Row) → i < r .tasks → getD (r .rows) i d .touched ≤ 4
-few-accesses r (text, p, e, says) i d l = says-row text p r e says i d (omega (arith, says .count)) .few
+-- what keeps the stores within the arrays
+pub row-fits : (r : ReadPlan) → Readable r → (i : ℕ) → i < r .tasks
+    → (i < layout.mostTasks) × (getD (r .rows) i noRow .touched ≤ layout.mostTaskAccesses)
+row-fits r (text, p, e, says) i l =
+    let low : i < length (p .tasks) = omega (arith, says .count) in
+    (omega (arith, formed text p r e says .tasks-few), says-row text p r e says i noRow low .few)

@@ -1,26 +1,13 @@
 -- The search for the last number below another that passes a test. Assumes nothing.
 use Prim.Native.Nat.{ℕ, zero, suc, _-_, _≤_, _<_}
-use mathlib.Core.Path.{_≡_, refl, sym, ap, _∙_}
+use mathlib.Core.Path.{_≡_, sym, ap, _∙_}
 use mathlib.Core.Bool.{Bool, true, false}
-use mathlib.Core.Option.{Option, none, some}
+use mathlib.Core.Option.{Option, some}
 use native.Mathlib.Omega.{arith}
-use Rattle.runs.specs.Update.{clash}
-use Rattle.machine.specs.Accesses.{lastBelow}
-use Rattle.scheduler.specs.Codes.{optionCode}
+use Rattle.runs.specs.Searches.{lastBelow, last-zero, last-found, last-passed}
+use Rattle.memory.specs.Codes.{optionCode}
 
 module _ (test : ℕ → Bool) where
-  pub last-zero : lastBelow test 0 ≡ none
-  unfolding lastBelow
-  last-zero = refl
-
-  pub last-found : (n : ℕ) → test n ≡ true → lastBelow test (suc n) ≡ some n
-  unfolding lastBelow
-  last-found n e = rw (e, lastBelow)
-
-  pub last-passed : (n : ℕ) → test n ≡ false → lastBelow test (suc n) ≡ lastBelow test n
-  unfolding lastBelow
-  last-passed n e = rw (e, lastBelow)
-
   pub last-low : (n : ℕ) → optionCode (lastBelow test n) ≤ n
   unfolding lastBelow
   last-low zero = omega arith
@@ -29,18 +16,6 @@ module _ (test : ℕ → Bool) where
       go : (b : Bool) (o : Option ℕ) → optionCode o ≤ n → optionCode (elim b [ true ↦ some n | false ↦ o ]) ≤ suc n
       go true o h = omega arith
       go false o h = omega arith
-
--- only the numbers below count
-pub last-same : (f g : ℕ → Bool) (n : ℕ) → ((b : ℕ) → b < n → f b ≡ g b) → lastBelow f n ≡ lastBelow g n
-unfolding lastBelow
-last-same f g zero h = refl
-last-same f g (suc n) h = go (f n) (g n) (h n (omega arith)) (last-same f g n (λ b l. h b (omega arith)))
-  where
-    go : (b c : Bool) → b ≡ c → {o p : Option ℕ} → o ≡ p → _≡_ {A = Option ℕ} (elim b [ true ↦ some n | false ↦ o ]) (elim c [ true ↦ some n | false ↦ p ])
-    go true true e q = refl
-    go true false e q = clash (cc)
-    go false true e q = clash (cc)
-    go false false e q = q
 
 -- ---- a search that goes down from n and has come to i
 

@@ -1,56 +1,52 @@
 -- Rows of accesses while they are laid: the first n of a plan's accesses are there.
 use Prim.Native.Nat.{ℕ, zero, suc, _+_, _*_, _≤_, _<_}
 use mathlib.Core.Path.{_≡_}
+use mathlib.Core.Logic.{_≢_}
 use mathlib.Core.Bool.{Bool}
-use mathlib.Core.List.{List, [], _∷_}
+use mathlib.Core.List.{List}
 use lib.ListN.{length, getD, set}
-use lib.Seq.{sets}
 use lib.Dec.{eqb}
 use Rattle.plan.specs.Plan.{Task}
-use Rattle.machine.specs.Accesses.{taskAt, taskOf, first, reader, prev, next}
-use Rattle.machine.specs.Safety.LinkLaws.{total, addr, Links}
+use Rattle.tasks.specs.Accesses as plan
+use Rattle.tasks.specs.Accesses.{total, addr, taskAt}
 use Rattle.reader.specs.declared.line.Touch.{Touch}
 use Rattle.reader.specs.PassLines.{accessesIn}
-use Rattle.scheduler.specs.Codes.{optionCode}
-use Rattle.scheduler.specs.Rows.{Column}
+use Rattle.memory.specs.Layout as layout
+use Rattle.memory.specs.Codes.{optionCode}
+use Rattle.memory.specs.Rows.{Column, newAccess}
 
 -- the access in row b is to this address
 abbrev pub atAddress : List ℕ → ℕ → ℕ → Bool
-atAddress rows address b = eqb address (getD rows (8 * b + 5) 0)
-
--- row a with an access: no flag set, and its address beside what `AccessRows` has
-abbrev pub withAccess : List ℕ → ℕ → ℕ → ℕ → ℕ → ℕ → ℕ → List ℕ
-withAccess rows a task reads before after address = sets rows (8 * a) (0 ∷ task ∷ reads ∷ before ∷ after ∷ address ∷ [])
+atAddress rows address b = eqb address (getD rows (layout.accessRow * b + layout.address) 0)
 
 -- access a follows the one with this code, or none
 abbrev pub followed : List ℕ → ℕ → ℕ → List ℕ
 followed rows zero a = rows
-followed rows (suc b) a = set rows (8 * b + 4) a
+followed rows (suc b) a = set rows (layout.accessRow * b + layout.next) a
 
 -- y is the access after a, or the number of all while it is not among the first n
 abbrev pub Follows : List Task → ℕ → ℕ → ℕ → Type 0
-Follows ts n a y = (next ts a < n → y ≡ next ts a) × (n ≤ next ts a → y ≡ total ts)
+Follows ts n a y = (plan.next ts a < n → y ≡ plan.next ts a) × (n ≤ plan.next ts a → y ≡ total ts)
 
+-- access a's row, with no flag set
+abbrev pub accessRowOf : List Task → ℕ → List ℕ
+accessRowOf ts a = newAccess (plan.taskOf ts a) (plan.reader ts a) (optionCode (plan.prev ts a)) (plan.next ts a) (addr ts a)
+
+-- the rows are as they will be, but for the access after
 pub record Laid (ts : List Task) (n : ℕ) (rows : List ℕ) : Type 0 where
-  pub flags : Column n rows 0 (λ a. 0)
-  pub task : Column n rows 1 (taskOf ts)
-  pub reader : Column n rows 2 (reader ts)
-  pub prev : Column n rows 3 (λ a. optionCode (prev ts a))
-  pub next : (a : ℕ) → a < n → Follows ts n a (getD rows (8 * a + 4) 0)
-  pub address : Column n rows 5 (addr ts)
+  pub columns : (k : ℕ) → k < layout.accessRow → k ≢ layout.next → Column layout.accessRow n rows k (λ a. getD (accessRowOf ts a) k 0)
+  pub next : (a : ℕ) → a < n → Follows ts n a (getD rows (layout.accessRow * a + layout.next) 0)
 
 -- access a of a plan, in numbers
 pub record IsAccess (ts : List Task) (a task reads address : ℕ) : Type 0 where
-  pub links : Links ts
   pub low : a < total ts
-  pub of : taskOf ts a ≡ task
-  pub kind : reader ts a ≡ reads
+  pub of : plan.taskOf ts a ≡ task
+  pub kind : plan.reader ts a ≡ reads
   pub at : addr ts a ≡ address
 
 -- the n accesses of task i, which begin with number `at`
 pub record AreAccesses (ts : List Task) (i at n : ℕ) (touches : List Touch) : Type 0 where
-  pub links : Links ts
   pub low : i < length ts
-  pub begins : first ts i ≡ at
+  pub begins : plan.first ts i ≡ at
   pub count : length (taskAt ts i .accesses) ≡ n
   pub accesses : accessesIn n touches ≡ taskAt ts i .accesses

@@ -1,15 +1,14 @@
 -- What is laid out of a plan that was read.
-use Prim.Native.Nat.{ℕ, _*_}
+use Prim.Native.Nat.{ℕ}
 use mathlib.Core.Path.{_≡_}
-use mathlib.Core.List.{List, [], _∷_}
-use lib.Seq.{sets}
+use mathlib.Core.List.{List}
 use Rattle.plan.specs.Plan.{Plan}
 use Rattle.plan.specs.Reading.{reading, accepted}
-use Rattle.machine.specs.Flags.{noFlag}
-use Rattle.machine.specs.State.{new}
+use Rattle.tasks.specs.Flags.{noFlag}
+use Rattle.tasks.specs.Tasks.{new}
 use Rattle.reader.specs.declared.ReadPlan.{ReadPlan}
 use Rattle.reader.specs.Verdict.{Says}
-use Rattle.scheduler.specs.Rows.{TaskRows, AccessRows}
+use Rattle.memory.specs.Rows.{TaskRows, AccessRows}
 
 -- an accepted plan was read
 abbrev pub Readable : ReadPlan → Type 0
@@ -25,11 +24,3 @@ NewTasks p rows = TaskRows (p .tasks) rows (λ _. 0) (λ _. new) (λ _. 0) (λ _
 
 abbrev pub NewAccesses : Plan → List ℕ → Type 0
 NewAccesses p rows = AccessRows (p .tasks) rows (λ _. noFlag)
-
--- row i with a task that is not yet created
-abbrev pub withTask : List ℕ → ℕ → ℕ → ℕ → ℕ → List ℕ
-withTask rows i cost first count = sets rows (8 * i) (0 ∷ 0 ∷ 0 ∷ 0 ∷ 0 ∷ cost ∷ first ∷ count ∷ [])
-
--- the place and the length of label i
-abbrev pub withLabel : List ℕ → ℕ → ℕ → ℕ → List ℕ
-withLabel places i place len = sets places (2 * i) (place ∷ len ∷ [])

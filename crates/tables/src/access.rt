@@ -1,4 +1,4 @@
-// The rows of accesses. Column 5, which nothing else uses, has the address while the rows are laid.
+// The rows of accesses.
 ghost use mathlib.Core.Path.{_≡_};
 ghost use mathlib.Core.Bool.{cond};
 ghost use mathlib.Core.List.{List};
@@ -6,23 +6,26 @@ ghost use Prim.Native.Nat.{suc, _+_, _≤_, _<_};
 ghost use lib.ListN.{length};
 ghost use lib.Dec.{eqb};
 ghost use Rattle.plan.specs.Plan.{Task};
-ghost use Rattle.machine.specs.Accesses.{lastBelow};
-ghost use Rattle.machine.specs.Safety.LinkLaws.{total as Total};
-ghost use Rattle.scheduler.specs.Codes.{optionCode};
-ghost use Rattle.tables.specs.Laid.{atAddress, withAccess, followed, Laid, IsAccess, AreAccesses};
+ghost use Rattle.runs.specs.Searches.{lastBelow};
+ghost use Rattle.tasks.specs.Accesses.{total as Total};
+ghost use Rattle.memory.specs.Layout as layout;
+ghost use Rattle.memory.specs.Codes.{optionCode};
+ghost use Rattle.tables.specs.Laid.{atAddress, followed, Laid, IsAccess, AreAccesses};
 ghost use Rattle.tables.specs.Tables.{Readable, OfPlan, NewAccesses};
+use memory::layout::MOST_TASK_ACCESSES;
+use memory::rows;
 use reader::ReadPlan;
 use reader::line::Touch;
 
 // The last access before a to this address, and 1 more, or 0.
 fn previous(accesses: &[u64], a: usize, address: u64) -> usize
-    requires { ⌜ (length (now accesses) ≡ 4096) × (a ≤ 512) ⌝ }
+    requires { ⌜ (length (now accesses) ≡ layout.accessRows) × (a ≤ layout.mostAccesses) ⌝ }
     ensures { λ r. ⌜ r ≡ optionCode (lastBelow (atAddress (now (accesses .entry)) address) a) ⌝ }
 {
     let mut i = a;
     while 0 < i {
         let b = i - 1;
-        if accesses[8 * b + 5] == address {
+        if rows::address(accesses, b) == address {
             return i;
         }
         i = b;
@@ -30,47 +33,32 @@ fn previous(accesses: &[u64], a: usize, address: u64) -> usize
     0
 }
 
-// Writes row a.
-fn put_access(
-    accesses: &mut [u64],
-    a: usize,
-    task: usize,
-    reads: u64,
-    before: usize,
-    after: usize,
-    address: u64,
-)
-    requires { ⌜ (length (now accesses) ≡ 4096) × (a < 512) ⌝ }
-    ensures { λ _. ⌜ now (accesses .exit) ≡ withAccess (now (accesses .entry)) a task reads before after address ⌝ }
-{
-    let at = 8 * a;
-    accesses[at] = 0;
-    accesses[at + 1] = task as u64;
-    accesses[at + 2] = reads;
-    accesses[at + 3] = before as u64;
-    accesses[at + 4] = after as u64;
-    accesses[at + 5] = address;
-}
-
 // Tells the access before, if there is one, that a comes after it.
 fn follow(accesses: &mut [u64], before: usize, a: usize)
-    requires { ⌜ (length (now accesses) ≡ 4096) × (before ≤ 512) ⌝ }
+    requires { ⌜ (length (now accesses) ≡ layout.accessRows) × (before ≤ layout.mostAccesses) ⌝ }
     ensures { λ _. ⌜ now (accesses .exit) ≡ followed (now (accesses .entry)) before a ⌝ }
 {
     if 0 < before {
-        let b = before - 1;
-        accesses[8 * b + 4] = a as u64;
+        rows::set_next(accesses, before - 1, a as u64);
     }
 }
 
 // Lays access a behind those before it. None comes after it yet.
-fn lay_access(accesses: &mut [u64], a: usize, task: usize, reads: u64, address: u64, total: usize)
-    requires { ⌜ (length (now accesses) ≡ 4096) × (a < 512) ⌝ }
+fn chain_access(accesses: &mut [u64], a: usize, task: usize, reads: u64, address: u64, total: usize)
+    requires { ⌜ (length (now accesses) ≡ layout.accessRows) × (a < layout.mostAccesses) ⌝ }
     ensures { λ _. ⌜ ((ts : List Task) → Total ts ≡ total → IsAccess ts a task reads address →
         Laid ts a (now (accesses .entry)) → Laid ts (suc a) (now (accesses .exit))) ⌝ }
 {
     let before = previous(accesses, a, address);
-    put_access(accesses, a, task, reads, before, total, address);
+    rows::lay_access(
+        accesses,
+        a,
+        task as u64,
+        reads,
+        before as u64,
+        total as u64,
+        address,
+    );
     follow(accesses, before, a);
 }
 
@@ -87,20 +75,20 @@ fn reads_of(writes: u64) -> u64
 // Lays the accesses of one task, of which the first has number `at`.
 fn lay_accesses(
     accesses: &mut [u64],
-    touches: [Touch; 4],
+    touches: [Touch; MOST_TASK_ACCESSES],
     n: usize,
     task: usize,
     at: usize,
     total: usize,
 )
-    requires { ⌜ (length (now accesses) ≡ 4096) × (n ≤ 4) × (at + n ≤ 512) ⌝ }
+    requires { ⌜ (length (now accesses) ≡ layout.accessRows) × (n ≤ layout.mostTaskAccesses) × (at + n ≤ layout.mostAccesses) ⌝ }
     ensures { λ _. ⌜ ((ts : List Task) → Total ts ≡ total → AreAccesses ts task at n touches →
         Laid ts at (now (accesses .entry)) → Laid ts (at + n) (now (accesses .exit))) ⌝ }
 {
     let mut k: usize = 0;
     while k < n {
         let touch = touches[k];
-        lay_access(
+        chain_access(
             accesses,
             at + k,
             task,
@@ -114,7 +102,7 @@ fn lay_accesses(
 
 // Lays a plan's accesses, so many.
 pub fn lay_plan_accesses(read: ReadPlan, accesses: &mut [u64], total: usize)
-    requires { ⌜ length (now accesses) ≡ 4096 ⌝ }
+    requires { ⌜ length (now accesses) ≡ layout.accessRows ⌝ }
     requires { ⌜ Readable read ⌝ }
     ensures { λ _. ⌜ OfPlan read (λ text p. total ≡ Total (p .tasks) → NewAccesses p (now (accesses .exit))) ⌝ }
 {

@@ -34,8 +34,11 @@ loop-again : tie.Need-loop-again Inv-loop μ-loop
 loop-again c =
     let at = c .before .loop in
     let start = c .before .before .args in
-    let h : at .i < length (start .store .now) = omega (arith, c .before .before .pre) in
-    (search needs, length-set (at .store) (at .i) 0 ∙ at .inv .1, ap (λ (l : List ℕ). set l (at .i) 0) (at .inv .2) ∙ fill-more (at .i) 0 (start .store .now) h)
+    let h : at .i < length (start .store .now) = omega (arith, c .before .before .pre) in (
+      search needs,
+      length-set (at .store) (at .i) 0 ∙ at .inv .1,
+      ap (λ (l : List ℕ). set l (at .i) 0) (at .inv .2) ∙ fill-more (at .i) 0 (start .store .now) h,
+    )
 
 same-length : tie.Need-same-length Inv-loop μ-loop
 same-length c = c .before .loop .inv .1

@@ -1,6 +1,5 @@
 -- `run` meets its contract.
 use native.Mathlib.Omega.{arith}
-use mathlib.Core.Path.{refl}
 use Rattle.bench.proofs.Running.{read-refused, read-accepted, run-long, run-small, run-refused, run-accepted, cleared-again, cleared-zeros}
 use borrow.Author.Needs.{needs}
 use Rattle.bench.proofs.run.Statement.{statement}
@@ -26,9 +25,12 @@ enum-told c = search needs
 
 run-plan-requires : tie.Need-run-plan-requires
 run-plan-requires c κs =
-    let zeros = c .before .before .before .before .before .before .before .clear .ensures in
-    let (p, e, says) = read-accepted _ _ (c .before .before .before .before .read .ensures) (c .before .before .enum-told .given .1) in
-    ((omega (arith, c .before .before .before .before .before .before .before .clear .kept .0), cleared-zeros (c .before .before .before .before .before .before .before .before .before .before .before .before .before .before .args .store .now) _ zeros), (p, e, says))
+    let reading = c .before .before .before .before in
+    let clearing = reading .before .before .before in
+    let start = clearing .before .before .before .before .before .before .before in
+    let zeros = clearing .clear .ensures in
+    let (p, e, says) = read-accepted _ _ (reading .read .ensures) (c .before .before .enum-told .given .1) in
+    ((omega (arith, clearing .clear .kept .0), cleared-zeros (start .args .store .now) _ zeros), (p, e, says))
 
 clear-requires-2 : tie.Need-clear-requires-2
 clear-requires-2 c κs = search needs
@@ -38,8 +40,10 @@ same-length c = search needs
 
 returns-3 : tie.Need-returns-3
 returns-3 c =
-    let read = c .before .before .before .read .ensures in
-    run-refused _ _ _ _ (omega arith) (omega arith) _ _ _ (read-refused _ _ _ _ read (c .before .checked .given .1)) (c .before .before .before .before .before .before .clear .ensures)
+    let reading = c .before .before .before in
+    let clearing = reading .before .before .before in
+    let refused = read-refused _ _ _ _ (reading .read .ensures) (c .before .checked .given .1) in
+    run-refused _ _ _ _ (omega arith) (omega arith) _ _ _ refused (clearing .clear .ensures)
 
 same-length-2 : tie.Need-same-length-2
 same-length-2 c = search needs
@@ -49,11 +53,17 @@ same-length-3 c = search needs
 
 returns-4 : tie.Need-returns-4
 returns-4 c =
-    let args = c .before .before .before .before .before .before .before .before .before .before .before .before .before .before .before .before .before .before .before .before .before .before .before .args in
-    let (p, e, says) = read-accepted _ _ (c .before .before .before .before .before .before .before .before .before .before .before .before .before .read .ensures) (c .before .before .before .before .before .before .before .before .before .before .before .enum-told .given .1) in
-    let ran = c .before .before .before .before .before .before .before .before .run-plan .ensures in
+    let playing = c .before .before .before .before .before .before .before .before in
+    let telling = playing .before .before .before in
+    let reading = telling .before .before in
+    let clearing = reading .before .before .before in
+    let start = clearing .before .before .before .before .before .before .before in
+    let args = start .args in
+    let (p, e, says) = read-accepted _ _ (reading .read .ensures) (telling .enum-told .given .1) in
+    let ran = playing .run-plan .ensures in
     run-accepted (args .limit) (args .store .now) (args .output .now) (args .text .now) (omega arith) (omega arith) p _ _ _ e
-    (cleared-again (args .store .now) _ (c .before .before .before .before .before .before .before .before .run-plan .last .1 .1 .1 .0) _ (omega arith) (c .before .before .before .before .before .before .before .before .before .before .before .before .before .before .before .before .clear .ensures) (ran .1) (c .before .before .clear2 .ensures))
+    (cleared-again (args .store .now) _ (playing .run-plan .last .1 .1 .1 .0) _
+    (omega arith) (clearing .clear .ensures) (ran .1) (c .before .before .clear2 .ensures))
     (ran .0 p (args .store .now) e says)
 
 pub run-spec : {M : Type 1} → statement M

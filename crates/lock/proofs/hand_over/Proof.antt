@@ -1,5 +1,6 @@
 -- `lock::hand_over` meets its contract.
 use mathlib.Core.Path.{refl}
+use Rattle.lock.proofs.Arrays.{hand-over-lock}
 use borrow.Author.Needs.{needs}
 use Rattle.lock.proofs.hand_over.Statement.{statement}
 use Rattle.lock.proofs.hand_over.Tie as tie
@@ -20,7 +21,20 @@ same-length : tie.Need-same-length
 same-length c = search needs
 
 returns : tie.Need-returns
-returns c = ((refl, refl), rw (c .before .slot .ensures .0) refl)
+returns c =
+    let start = c .before .before .before .before .before in
+    let args = start .args in
+    let at = c .before .slot .ensures .0 in (
+      (refl, refl),
+      (
+        rw at refl,
+        λ registrations tickets tasks.
+            rw at
+            (hand-over-lock (args .slots) (args .ends .head .0) (args .ends .tail .0) (args .wait .now) registrations tickets tasks
+            (start .pre .0)
+            (start .pre .1)),
+      ),
+    )
 
 pub hand-over-spec : {M : Type 1} → statement M
 hand-over-spec =

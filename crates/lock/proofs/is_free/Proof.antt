@@ -6,6 +6,7 @@ use native.Mathlib.Omega.{arith}
 use lib.Dec.{eqb}
 use borrow.Author.Tests.{eq-eqb, ne-eqb}
 use Rattle.runs.specs.Update.{same}
+use Rattle.lock.specs.Lock.{isFree}
 use borrow.Author.Needs.{needs}
 use Rattle.lock.proofs.is_free.Statement.{statement}
 use Rattle.lock.proofs.is_free.Tie as tie
@@ -20,10 +21,16 @@ sub-result : tie.Need-sub-result
 sub-result c = search needs
 
 returns : tie.Need-returns
+unfolding isFree
 returns c slots wait registrations tickets tasks = gap-one _ _ (c .if1 .taken)
 
 returns-2 : tie.Need-returns-2
-returns-2 c slots wait registrations tickets tasks = let h : c .before .args .ends .tail .0 ≤ c .before .args .ends .head .0 = c .if1 .left in sym (ne-eqb (c .before .args .ends .tail .0) (suc (c .before .args .ends .head .0)) (omega arith))
+unfolding isFree
+returns-2 c slots wait registrations tickets tasks =
+    let head = c .before .args .ends .head .0 in
+    let tail = c .before .args .ends .tail .0 in
+    let h : tail ≤ head = c .if1 .left in
+    sym (ne-eqb tail (suc head) (omega (arith, h)))
 
 pub is-free-spec : {M : Type 1} → statement M
 is-free-spec = tie.close (tie.spec sub-result returns returns-2)

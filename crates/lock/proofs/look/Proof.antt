@@ -1,8 +1,6 @@
 -- `lock::look` meets its contract.
-use mathlib.Core.Path.{sym}
 use native.Mathlib.Omega.{arith}
-use Rattle.lock.specs.Looks.{looks-early, looks-served, looks-first}
-use Rattle.lock.specs.Arrays.{wait-at}
+use Rattle.lock.proofs.Reading.{looks-early, looks-served, looks-first}
 use borrow.Author.Needs.{needs}
 use Rattle.lock.proofs.look.Statement.{statement}
 use Rattle.lock.proofs.look.Tie as tie
@@ -20,7 +18,15 @@ returns : tie.Need-returns
 returns c head tail registrations =
     let start = c .before .before .before .before .before .before in
     let slot = c .before .before .slot in
-    sym (looks-early (start .args .slots) _ (start .args .ticket .0) (start .args .worker .0) (omega (arith, c .if1 .taken, wait-at (start .args .slots) (start .args .ticket .0) (slot .result) (start .args .wait .now) (slot .ensures .0) (slot .ensures .1) (start .pre .1))))
+    let args = start .args in
+    looks-early (args .slots) head tail (args .wait .now) registrations (args .cell-tickets .now) (args .cell-tasks .now)
+    (args .ticket .0)
+    (args .worker .0)
+    (slot .result)
+    (slot .ensures .0)
+    (slot .ensures .1)
+    (start .pre .1)
+    (omega (arith, c .if1 .taken))
 
 mul-if2 : tie.Need-mul-if2
 mul-if2 c = search needs
@@ -38,13 +44,31 @@ returns-2 : tie.Need-returns-2
 returns-2 c head tail registrations =
     let start = c .before .before .before .before .before .before .before .before .before in
     let slot = c .before .before .before .before .before .slot in
-    sym (looks-served (start .args .slots) _ (start .args .ticket .0) (start .args .worker .0) (omega (arith, c .before .before .before .if1 .left, wait-at (start .args .slots) (start .args .ticket .0) (slot .result) (start .args .wait .now) (slot .ensures .0) (slot .ensures .1) (start .pre .1))) (c .before .if2 .taken))
+    let args = start .args in
+    looks-served (args .slots) head tail (args .wait .now) registrations (args .cell-tickets .now) (args .cell-tasks .now)
+    (args .ticket .0)
+    (args .worker .0)
+    (slot .result)
+    (slot .ensures .0)
+    (slot .ensures .1)
+    (start .pre .1)
+    (omega (arith, c .before .before .before .if1 .left))
+    (c .before .if2 .taken)
 
 returns-3 : tie.Need-returns-3
 returns-3 c head tail registrations =
     let start = c .before .before .before .before .before .before .before .before in
     let slot = c .before .before .before .before .slot in
-    sym (looks-first (start .args .slots) _ (start .args .ticket .0) (start .args .worker .0) (omega (arith, c .before .before .if1 .left, wait-at (start .args .slots) (start .args .ticket .0) (slot .result) (start .args .wait .now) (slot .ensures .0) (slot .ensures .1) (start .pre .1))) (c .if2 .left))
+    let args = start .args in
+    looks-first (args .slots) head tail (args .wait .now) registrations (args .cell-tickets .now) (args .cell-tasks .now)
+    (args .ticket .0)
+    (args .worker .0)
+    (slot .result)
+    (slot .ensures .0)
+    (slot .ensures .1)
+    (start .pre .1)
+    (omega (arith, c .before .before .if1 .left))
+    (c .if2 .left)
 
 pub look-spec : {M : Type 1} → statement M
 look-spec =

@@ -1,5 +1,6 @@
 -- `lock::register` meets its contract.
 use mathlib.Core.Path.{refl}
+use Rattle.lock.proofs.Arrays.{register-lock}
 use borrow.Author.Needs.{needs}
 use Rattle.lock.proofs.register.Statement.{statement}
 use Rattle.lock.proofs.register.Tie as tie
@@ -20,7 +21,18 @@ same-length : tie.Need-same-length
 same-length c = search needs
 
 returns : tie.Need-returns
-returns c = rw (c .joined .ensures, c .before .slot .ensures .0) refl
+returns c =
+    let start = c .before .before .before in
+    let args = start .args in
+    let at = c .before .slot .ensures .0 in
+    let sum = c .joined .ensures in (
+      rw (sum, at) refl,
+      λ head tail wait tickets tasks.
+          rw (sum, at)
+          (register-lock (args .slots) head tail wait (args .registrations .now) tickets tasks (args .ticket .0) (args .worker .0)
+          (start .pre .0)
+          (start .pre .1)),
+    )
 
 pub register-spec : {M : Type 1} → statement M
 register-spec =

@@ -39,7 +39,8 @@ loop-again c =
     let at = c .before .loop in
     let start = c .before .before .args in
     let h : at .i < length (start .a .now) = omega arith in
-    (omega arith, length-set (at .a) (at .i) (start .v) ∙ at .inv .1, ap (λ (l : List ℕ). set l (at .i) (start .v)) (at .inv .2) ∙ fill-more (at .i) (start .v) (start .a .now) h)
+    let so-far = ap (λ (l : List ℕ). set l (at .i) (start .v)) (at .inv .2) in
+    (omega arith, length-set (at .a) (at .i) (start .v) ∙ at .inv .1, so-far ∙ fill-more (at .i) (start .v) (start .a .now) h)
 
 same-length : tie.Need-same-length Inv-loop μ-loop
 same-length c = c .before .loop .inv .1

@@ -1,5 +1,6 @@
 -- `lock::start` meets its contract.
 use mathlib.Core.Path.{refl}
+use Rattle.lock.proofs.Arrays.{start-lock}
 use borrow.Author.Needs.{needs}
 use Rattle.lock.proofs.start.Statement.{statement}
 use Rattle.lock.proofs.start.Tie as tie
@@ -37,7 +38,21 @@ returns c =
     let third = fourth .before .before .before .before in
     let second = third .before .before .before .before in
     let first = second .before .before .before .before in
-    ((refl, refl), (first .set-all .ensures, (second .set-all2 .ensures, third .set-all3 .ensures, fourth .set-all4 .ensures)))
+    let args = first .before .before .before .before .before .before .args in
+    let waits = first .set-all .ensures in
+    let registrations = second .set-all2 .ensures in
+    let tickets = third .set-all3 .ensures in
+    let tasks = fourth .set-all4 .ensures in (
+      (refl, refl),
+      (
+        waits,
+        (
+          (registrations, tickets, tasks),
+          rw (waits, registrations, tickets, tasks)
+              (start-lock (args .slots) (args .wait .now) (args .registrations .now) (args .cell-tickets .now) (args .cell-tasks .now)),
+        ),
+      ),
+    )
 
 pub start-spec : {M : Type 1} → statement M
 start-spec =

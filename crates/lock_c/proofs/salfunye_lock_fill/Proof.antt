@@ -29,7 +29,7 @@ returns-3 c =
     let call = c .before .before .before .before in
     let ends = call .before .before .before .ends-at .ensures in
     let filled = call .fill .ensures in
-    accepted (omega arith) (refl, rw (ends .1) at (filled .0), filled .1)
+    accepted (omega arith) (refl, rw (ends .1) at (filled .0), filled .1 .0)
 
 pub salfunye-lock-fill-spec : {M : Type 1} → statement M
 salfunye-lock-fill-spec =

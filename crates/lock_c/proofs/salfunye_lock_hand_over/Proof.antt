@@ -29,7 +29,7 @@ returns-4 c =
     let call = c .before .before in
     let ends = call .before .before .ends-at .ensures in
     let handed = call .hand-over .ensures in
-    accepted (omega arith) (refl, handed .0 .0 ∙ ends .0, rw (ends .1) at (handed .0 .1), rw (ends .1) at (handed .1))
+    accepted (omega arith) (refl, handed .0 .0 ∙ ends .0, rw (ends .1) at (handed .0 .1), rw (ends .1) at (handed .1 .0))
 
 pub salfunye-lock-hand-over-spec : {M : Type 1} → statement M
 salfunye-lock-hand-over-spec =

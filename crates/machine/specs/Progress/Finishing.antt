@@ -14,25 +14,23 @@ use Rattle.machine.specs.State.{Setup, State, start, picked}
 use Rattle.machine.specs.Event.{event}
 use Rattle.machine.specs.Step.{step, finished, pick, after}
 use Rattle.machine.specs.View.{does-step}
-use Rattle.machine.specs.Safety.LinkLaws.{total}
-use Rattle.machine.specs.Safety.TaskSteps.{tasks-picked}
-use Rattle.machine.specs.Safety.Invariant.{Playable, Inv, inv-start, inv-step}
+use Rattle.machine.specs.Safety.Invariant.{Playable, Inv, inv-start, inv-step, inv-picked}
 use Rattle.machine.specs.Safety.Traces.{pick-finished, pick-open, pick-keeps, run-finished, picks-taken, taken-within}
-use Rattle.machine.specs.Progress.TaskWork.{totalCost}
+use Rattle.tasks.specs.Tasks as T
+use Rattle.tasks.specs.Promise as Tasks
+use Rattle.tasks.specs.Promise.{total, totalCost}
+use Rattle.tasks.specs.Playing as P
 use Rattle.machine.specs.Progress.Quiet.{work, gain, work-start, work-falls, gains-or-quiet}
 use Rattle.machine.specs.Progress.Creating.{CreatesFirst, creates-start, creates-keep}
 use Rattle.machine.specs.Progress.Helpful.{Helpful, prompt, hands-on, takes-along, eager, leads-to, leads-past, near}
 use Rattle.machine.specs.Progress.Nearing.{quiet-turn}
-use Rattle.machine.specs.Progress.Somebody.{every-below, most, somebody, nothing-left}
+use Rattle.machine.specs.Progress.Somebody.{most, somebody, nothing-left}
 
 -- counting the pick changes none of it
-inv-picked : (c : Setup) (s : State) → Inv c s → Inv c (picked s)
-inv-picked c s i = record { locked = i .locked; tasks = tasks-picked c s (i .tasks); dependences = record { messages = i .dependences .messages; counting = i .dependences .counting } }
-
 helpful-picked : (c : Setup) (s : State) (r v : ℕ) → Helpful c s r v → Helpful c (picked s) r v
 helpful-picked c s r v (prompt h) = prompt h
 helpful-picked c s r v (hands-on n h l) = hands-on n h l
-helpful-picked c s r v (takes-along j h l) = takes-along j h l
+helpful-picked c s r v (takes-along h o l) = takes-along h o l
 helpful-picked c s r v (eager g h l) = eager g h l
 helpful-picked c s r v (leads-to k h l) = leads-to k h l
 helpful-picked c s r v (leads-past k a l) = leads-past k a l
@@ -40,10 +38,9 @@ helpful-picked c s r v (near f a h) = near f a h
 
 -- no tasks: finished at once
 pub finished-at-once : (c : Setup) → length (c .tasks) ≡ 0 → finished c (start c) ≡ true
-unfolding finished start
+unfolding start
 finished-at-once c z =
-    rw (every-below (length (c .tasks)) (λ i. false) (λ i l. absurd (omega arith)))
-    (every-below (c .workers) (λ w. true) (λ w l. refl))
+    P.finished-if (c .workers) (c .tasks) T.start (λ _. T.free) (λ i l. absurd (omega arith)) (λ w l. ((Tasks.start-lists w) .0, refl))
 
 module _ (c : Setup) (playable : Playable c) where
   -- what holds of every state that picks lead to
@@ -52,11 +49,12 @@ module _ (c : Setup) (playable : Playable c) where
 
   lawful-step : (s : State) (x : ℕ) → x < c .workers → Lawful s → Lawful (step c s x)
   unfolding step
-  lawful-step s x hx (i, f) = (inv-step c playable s x hx i, creates-keep c (picked s) x (does-step c s x) f)
+  lawful-step s x hx (i, f) =
+      (inv-step c playable s x hx i, creates-keep c playable (picked s) (inv-picked c playable s i) x hx (does-step c s x) f)
 
   work-step : (s : State) (x : ℕ) → x < c .workers → Inv c s → work c (step c s x) + gain (picked s) (event c s x) ≤ work c s
   unfolding step
-  work-step s x hx i = work-falls c playable (picked s) (inv-picked c s i) x hx (does-step c s x)
+  work-step s x hx i = work-falls c playable (picked s) (inv-picked c playable s i) x hx (does-step c s x)
 
   -- ---- from one progress step to the next
 
@@ -70,7 +68,8 @@ module _ (c : Setup) (playable : Playable c) where
     at-most-pick : (s : State) (x : ℕ) → x < c .workers → AtMost s → AtMost (pick c s x)
     at-most-pick = pick-keeps c AtMost (λ s x hx (k, l). (lawful-step s x hx k, omega (arith, work-step s x hx (k .0))))
 
-    turn : (s : State) (r v x : ℕ) → v < c .workers → x < c .workers → AtMost s → Helpful c s r v → Turn Goal (λ r v s. Helpful c s r v) (c .workers) r v x (pick c s x)
+    turn : (s : State) (r v x : ℕ) → v < c .workers → x < c .workers → AtMost s → Helpful c s r v
+        → Turn Goal (λ r v s. Helpful c s r v) (c .workers) r v x (pick c s x)
     unfolding step
     turn s r v x hv hx ((i, f), l) h = go (finished c s) refl
       where
@@ -79,7 +78,7 @@ module _ (c : Setup) (playable : Playable c) where
         go false e =
             rw (pick-open c s x e)
             (⊎-elim (λ (g : 0 < gain (picked s) (event c s x)). reaches (inr (omega (arith, work-step s x hx i))))
-            (λ q. quiet-turn c playable Goal (picked s) (inv-picked c s i) x hx (does-step c s x) q r v (helpful-picked c s r v h))
+            (λ q. quiet-turn c playable Goal (picked s) (inv-picked c playable s i) x hx (does-step c s x) q r v (helpful-picked c s r v h))
             (gains-or-quiet c (picked s) x (does-step c s x)))
 
   round : (B : ℕ) (ws : List ℕ) → Picks (c .workers) ws → Regular (c .workers) B ws → (s : State) → Lawful s → suc (most c) * B ≤ length ws
@@ -90,13 +89,14 @@ module _ (c : Setup) (playable : Playable c) where
       go true e = (0, omega arith, omega arith, inl e)
       go false e =
           let (v, hv, h) = somebody c playable s (k .0) (k .1) e in
-          fair (pick c) (AtMost (work c s)) (Goal (work c s)) (λ r v s. Helpful c s r v) (c .workers) B (at-most-pick (work c s)) (turn (work c s)) ws p q s (k, omega arith) (most c) v hv h l
+          fair (pick c) (AtMost (work c s)) (Goal (work c s)) (λ r v s. Helpful c s r v) (c .workers) B (at-most-pick (work c s))
+          (turn (work c s)) ws p q s (k, omega arith) (most c) v hv h l
 
   -- ---- the figure
 
   -- B (4W + 8) (7T + 7A + C) for T tasks with A accesses and the total cost C
   abbrev figure : ℕ → ℕ
-  figure B = B * (4 * c .workers + 8) * (7 * length (c .tasks) + 7 * total (c .tasks) + totalCost c)
+  figure B = B * (4 * c .workers + 8) * (7 * length (c .tasks) + 7 * total (c .tasks) + totalCost (c .tasks))
 
   in-rounds : (B : ℕ) → work c (start c) * (suc (most c) * B) ≡ figure B
   in-rounds B =
@@ -106,15 +106,18 @@ module _ (c : Setup) (playable : Playable c) where
       ∙ ap (λ n. B * (4 * c .workers + 8) * n) (work-start c playable)
 
   module _ (B : ℕ) (ws : List ℕ) (p : Picks (c .workers) ws) (q : Regular (c .workers) B ws)
-      (long : B * (4 * c .workers + 8) * (7 * length (c .tasks) + 7 * total (c .tasks) + totalCost c) ≤ length ws) where
-    pub finishes-within : Within (pick c) (λ s. finished c s ≡ true) (B * (4 * c .workers + 8) * (7 * length (c .tasks) + 7 * total (c .tasks) + totalCost c)) ws (start c)
+      (long : B * (4 * c .workers + 8) * (7 * length (c .tasks) + 7 * total (c .tasks) + totalCost (c .tasks)) ≤ length ws) where
+    pub finishes-within : Within (pick c) (λ s. finished c s ≡ true)
+        (B * (4 * c .workers + 8) * (7 * length (c .tasks) + 7 * total (c .tasks) + totalCost (c .tasks))) ws (start c)
     finishes-within =
         rw (sym (in-rounds B))
         (rounds (pick c) Lawful (λ s. finished c s ≡ true) (work c) (c .workers) B (suc (most c) * B)
-        (pick-keeps c Lawful lawful-step) (λ s k z. nothing-left c playable s (k .0) z) (round B) ws p q (start c) (inv-start c playable, creates-start c) (omega (arith, in-rounds B)))
+        (pick-keeps c Lawful lawful-step) (λ s k z. nothing-left c playable s (k .0) z) (round B) ws p q (start c)
+        (inv-start c playable, creates-start c) (omega (arith, in-rounds B)))
 
     -- the state after the list is the one in which the run was finished first
-    settled : (n : ℕ) × (n ≤ figure B) × (n ≤ length ws) × (finished c (run (pick c) (start c) (take n ws)) ≡ true) × (after c ws ≡ run (pick c) (start c) (take n ws))
+    settled : (n : ℕ) × (n ≤ figure B) × (n ≤ length ws) × (finished c (run (pick c) (start c) (take n ws)) ≡ true)
+        × (after c ws ≡ run (pick c) (start c) (take n ws))
     unfolding after
     settled =
         let (n, a, b, e) = finishes-within in
@@ -125,7 +128,8 @@ module _ (c : Setup) (playable : Playable c) where
     finishing-figure = let (n, a, b, e, z) = settled in rw z e
 
     -- with no more picks taken than that
-    pub finishing-picks : (after c ws) .picks ≤ B * (4 * c .workers + 8) * (7 * length (c .tasks) + 7 * total (c .tasks) + totalCost c)
+    pub finishing-picks :
+        (after c ws) .picks ≤ B * (4 * c .workers + 8) * (7 * length (c .tasks) + 7 * total (c .tasks) + totalCost (c .tasks))
     unfolding start
     finishing-picks =
         let (n, a, b, e, z) = settled in

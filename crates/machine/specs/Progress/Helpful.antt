@@ -5,76 +5,75 @@ use mathlib.Core.Path.{_≡_, refl, sym, ap, _∙_}
 use mathlib.Core.Logic.{_⊎_, inl, inr, ⊎-elim}
 use mathlib.Core.Bool.{true}
 use mathlib.Core.List.{List, []}
-use mathlib.Core.Option.{some}
 use lib.ListN.{length}
 use Rattle.runs.specs.Update.{clash}
 use Rattle.lock.specs.Lock as L
 use Rattle.lock.specs.History as H
 use Rattle.lock.specs.Promise as Promise
-use Rattle.machine.specs.State.{Setup, Message, forServing, forAdding, Place, idle, notifying, trying, registering, looking, draining, serving, handing, leaving, working, Creation, opening, linking, State}
-use Rattle.machine.specs.Safety.Locked.{stand, Locked}
+use Rattle.tasks.specs.Tasks as T
+use Rattle.tasks.specs.Tasks.{Message, Creation, opening, linking}
+use Rattle.machine.specs.State.{Setup, forServing, forAdding, Place, idle, trying, registering, looking, draining, serving, handing, leaving, State}
+use Rattle.machine.specs.Whereabouts.{lockStand}
+use Rattle.machine.specs.Safety.Locked.{Locked}
 use Rattle.machine.specs.Progress.Leading.{standing, Leads}
 use Rattle.machine.specs.Progress.Waiting.{toHandOver}
 use Rattle.machine.specs.Progress.Creating.{Soon}
 
 -- ---- places
 
--- the next pick of a worker here is progress: it gives a notice, works or ends a task, or receives one from its cell
-abbrev pub Prompt : ℕ → ℕ → Place → Type 0
-Prompt tail ticket idle = ⊥
-Prompt tail ticket (notifying a f) = Unit {0}
-Prompt tail ticket trying = ⊥
-Prompt tail ticket (registering t) = ⊥
-Prompt tail ticket (looking t) = (t < tail) × (ticket ≡ t)
-Prompt tail ticket (draining p k) = ⊥
-Prompt tail ticket (serving n) = ⊥
-Prompt tail ticket (handing n) = ⊥
-Prompt tail ticket (leaving o) = ⊥
-Prompt tail ticket (working i n) = Unit {0}
+-- a worker has a notice to give or a task in hand
+abbrev pub Occupied : T.Stand → Type 0
+Occupied T.free = ⊥
+Occupied (T.telling a f) = Unit {0}
+Occupied (T.working i n) = Unit {0}
 
--- a worker here is out of the lock, with no task, and can come to lead it while it is free
+-- the next pick of a worker here is progress: it gives a notice, works or ends a task, or receives one from its cell
+abbrev pub Prompt : ℕ → ℕ → T.Stand → Place → Type 0
+Prompt tail ticket x idle = Occupied x
+Prompt tail ticket x trying = ⊥
+Prompt tail ticket x (registering t) = ⊥
+Prompt tail ticket x (looking t) = (t < tail) × (ticket ≡ t)
+Prompt tail ticket x (draining p k) = ⊥
+Prompt tail ticket x (serving n) = ⊥
+Prompt tail ticket x (handing n) = ⊥
+Prompt tail ticket x leaving = ⊥
+
+-- a worker here is out of the lock, and can come to lead it while it is free
 abbrev pub Near : ℕ → ℕ → Place → Type 0
 Near W r idle = W + 6 ≤ r
-Near W r (notifying a f) = ⊥
 Near W r trying = W + 5 ≤ r
 Near W r (registering t) = ⊥
 Near W r (looking t) = ⊥
 Near W r (draining p k) = ⊥
 Near W r (serving n) = ⊥
 Near W r (handing n) = ⊥
-Near W r (leaving o) = ⊥
-Near W r (working i n) = ⊥
+Near W r leaving = ⊥
 
 -- the picks of its own before a worker is idle again
 abbrev pub toIdle : ℕ → Place → ℕ
 toIdle W idle = 0
-toIdle W (notifying a f) = 0
 toIdle W trying = W + 2
 toIdle W (registering t) = 0
 toIdle W (looking t) = 0
 toIdle W (draining p k) = W - k + 1
 toIdle W (serving n) = 0
 toIdle W (handing n) = 0
-toIdle W (leaving o) = 1
-toIdle W (working i n) = 0
+toIdle W leaving = 1
 
 -- a leader here drains queue j before it hands over
 abbrev pub FindsQueue : ℕ → Place → Type 0
 FindsQueue j idle = ⊥
-FindsQueue j (notifying a f) = ⊥
 FindsQueue j trying = ⊥
 FindsQueue j (registering t) = Unit {0}
 FindsQueue j (looking t) = Unit {0}
 FindsQueue j (draining p k) = k ≤ j
 FindsQueue j (serving n) = ⊥
 FindsQueue j (handing n) = ⊥
-FindsQueue j (leaving o) = ⊥
-FindsQueue j (working i n) = ⊥
+FindsQueue j leaving = ⊥
 
 -- a leader here serves or takes a task before it hands over
 abbrev pub FindsList : Place → Type 0
 FindsList idle = ⊥
-FindsList (notifying a f) = ⊥
 FindsList trying = ⊥
 FindsList (registering t) = Unit {0}
 FindsList (looking t) = Unit {0}
@@ -82,8 +81,7 @@ FindsList (draining forServing k) = Unit {0}
 FindsList (draining forAdding k) = ⊥
 FindsList (serving n) = Unit {0}
 FindsList (handing n) = ⊥
-FindsList (leaving o) = ⊥
-FindsList (working i n) = ⊥
+FindsList leaving = ⊥
 
 abbrev pub Uncreated : Setup → Creation → Type 0
 Uncreated c (opening i) = i < length (c .tasks)
@@ -111,23 +109,24 @@ module _ (c : Setup) where
 
 -- worker v has at most r + 1 picks of its own up to progress
 pub data Helpful (c : Setup) (s : State) (r v : ℕ) : Type 0 where
-  prompt : Prompt (s .lock .tail) (s .lock .cellTicket v) (s .place v) → Helpful c s r v
+  prompt : Prompt (s .lock .tail) (s .lock .cellTicket v) (s .stand v) (s .place v) → Helpful c s r v
   hands-on : (n : ℕ) → s .place v ≡ handing n → 0 < r → Helpful c s r v
-  takes-along : (j : ℕ) → s .place v ≡ leaving (some j) → 0 < r → Helpful c s r v
-  eager : Eager c (s .queue) (s .mail) (s .adds) (s .creation) v → Soon (s .place v) → toIdle (c .workers) (s .place v) ≤ r → Helpful c s r v
+  takes-along : s .place v ≡ leaving → Occupied (s .stand v) → 0 < r → Helpful c s r v
+  eager : Eager c (s .queue) (s .tasks .mail) (s .tasks .adds) (s .tasks .creation) v → Soon (s .place v)
+      → toIdle (c .workers) (s .place v) ≤ r → Helpful c s r v
   -- a leader that can't miss what is ahead, one that may have missed it in this session, and a worker near a free lock
-  leads-to : Leads s v → Sure c (s .queue) (s .readyList) (s .adds) (s .place v) → toHandOver (c .workers) (s .place v) ≤ r → Helpful c s r v
-  leads-past : Leads s v → Ahead c (s .queue) (s .readyList) (s .adds) → toHandOver (c .workers) (s .place v) + (c .workers + 6) ≤ r → Helpful c s r v
-  near : L.isFree (s .lock) ≡ true → Ahead c (s .queue) (s .readyList) (s .adds) → Near (c .workers) r (s .place v) → Helpful c s r v
+  leads-to : Leads s v → Sure c (s .queue) (s .readyList) (s .tasks .adds) (s .place v) → toHandOver (c .workers) (s .place v) ≤ r
+      → Helpful c s r v
+  leads-past : Leads s v → Ahead c (s .queue) (s .readyList) (s .tasks .adds) → toHandOver (c .workers) (s .place v) + (c .workers + 6) ≤ r
+      → Helpful c s r v
+  near : L.isFree (s .lock) ≡ true → Ahead c (s .queue) (s .readyList) (s .tasks .adds) → Near (c .workers) r (s .place v) → Helpful c s r v
 
 -- ---- where nobody owns
 
 -- a worker with a ticket has its session before it
-begins : (W : ℕ) (p : Place) (t : ℕ) → H.Holds (stand p) t → ((j : ℕ) → FindsQueue j p) × FindsList p × (toHandOver W p ≤ W + 4)
+begins : (W : ℕ) (p : Place) (t : ℕ) → H.Holds (lockStand p) t → ((j : ℕ) → FindsQueue j p) × FindsList p × (toHandOver W p ≤ W + 4)
 begins W idle t (inl e) = clash (cc)
 begins W idle t (inr e) = clash (cc)
-begins W (notifying a f) t (inl e) = clash (cc)
-begins W (notifying a f) t (inr e) = clash (cc)
 begins W trying t (inl e) = clash (cc)
 begins W trying t (inr e) = clash (cc)
 begins W (registering u) t h = (λ j. tt, tt, omega arith)
@@ -138,13 +137,12 @@ begins W (serving n) t (inl e) = clash (cc)
 begins W (serving n) t (inr e) = clash (cc)
 begins W (handing n) t (inl e) = clash (cc)
 begins W (handing n) t (inr e) = clash (cc)
-begins W (leaving o) t (inl e) = clash (cc)
-begins W (leaving o) t (inr e) = clash (cc)
-begins W (working i n) t (inl e) = clash (cc)
-begins W (working i n) t (inr e) = clash (cc)
+begins W leaving t (inl e) = clash (cc)
+begins W leaving t (inr e) = clash (cc)
 
 module _ (c : Setup) (s : State) (i : Locked c (s .lock) (s .place)) where
-  pub called-helps : Ahead c (s .queue) (s .readyList) (s .adds) → (v r : ℕ) → H.Called (s .lock) (standing s) v → c .workers + 4 ≤ r → Helpful c s r v
+  pub called-helps : Ahead c (s .queue) (s .readyList) (s .tasks .adds) → (v r : ℕ) → H.Called (s .lock) (standing s) v → c .workers + 4 ≤ r
+      → Helpful c s r v
   called-helps a v r (t, h, k, n) l =
       let (q, f, b) = begins (c .workers) (s .place v) t h in
       leads-to (inr (t, h, k, n)) (⊎-elim (λ (j, y, z). inl (j, y, z, q j)) (λ (y, z). inr (y, z, f)) a) (omega arith)
@@ -157,23 +155,22 @@ module _ (c : Setup) (s : State) (i : Locked c (s .lock) (s .place)) where
     free-unowned v o = absurd ((Promise.free-lock i free) .0 v o)
 
     -- whoever holds a ticket of a free lock waits and finds it in its cell
-    pub free-served : (v t : ℕ) → H.Holds (standing s v) t → (t < s .lock .tail) × (standing s v ≡ H.waiting t) × (s .lock .cellTicket v ≡ t)
+    pub free-served : (v t : ℕ) → H.Holds (standing s v) t
+        → (t < s .lock .tail) × (standing s v ≡ H.waiting t) × (s .lock .cellTicket v ≡ t)
     free-served v t h = let (p, l, q) = (Promise.free-lock i free) .1 v t h in (l, p, q)
 
     pub free-registered : {A : Type 0} (v t : ℕ) → standing s v ≡ H.taken t → A
     free-registered v t e = let (l, z, y) = free-served v t (inl e) in let x : H.taken t ≡ H.waiting t = sym e ∙ z in clash (cc)
 
-    pub free-helps : Ahead c (s .queue) (s .readyList) (s .adds) → (v r : ℕ) → c .workers + 6 ≤ r → Helpful c s r v
+    pub free-helps : Ahead c (s .queue) (s .readyList) (s .tasks .adds) → (v r : ℕ) → c .workers + 6 ≤ r → Helpful c s r v
     free-helps a v r l = go (s .place v) refl
       where
         go : (p : Place) → s .place v ≡ p → Helpful c s r v
         go idle e = near free a (rw e l)
-        go (notifying b f) e = prompt (rw e tt)
         go trying e = near free a (rw e (omega arith))
-        go (registering t) e = free-registered v t (ap stand e)
-        go (looking t) e = let (b, z, y) = free-served v t (inr (ap stand e)) in prompt (rw e (b, y))
-        go (draining q k) e = free-unowned v (inl (ap stand e))
-        go (serving n) e = free-unowned v (inl (ap stand e))
-        go (handing n) e = free-unowned v (inr (ap stand e))
-        go (leaving o) e = free-unowned v (inl (ap stand e))
-        go (working j n) e = prompt (rw e tt)
+        go (registering t) e = free-registered v t (ap lockStand e)
+        go (looking t) e = let (b, z, y) = free-served v t (inr (ap lockStand e)) in prompt (rw e (b, y))
+        go (draining q k) e = free-unowned v (inl (ap lockStand e))
+        go (serving n) e = free-unowned v (inl (ap lockStand e))
+        go (handing n) e = free-unowned v (inr (ap lockStand e))
+        go leaving e = free-unowned v (inl (ap lockStand e))

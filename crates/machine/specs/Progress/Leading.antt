@@ -1,46 +1,26 @@
--- Who leads: the owner or, where nobody owns and the lock is not free, the worker whose turn it is to own. Nobody else changes what it stands on.
+-- Who leads: the owner or, where nobody owns and the lock is not free, the worker whose turn it is
+-- to own. Nobody else changes what it stands on.
 use Prim.Native.Nat.{ℕ, suc, _≤_, _<_}
 use native.Mathlib.Omega.{arith}
 use mathlib.Core.Path.{_≡_, refl, sym, ap, _∙_}
 use mathlib.Core.Logic.{_⊎_, inl, inr, _≢_}
+use mathlib.Core.Option.{Option}
 use Rattle.runs.specs.Update.{upd-other}
 use Rattle.lock.specs.History as H
 use Rattle.lock.specs.Promise as Promise
-use Rattle.machine.specs.State.{Setup, Place, draining, serving, handing, leaving, State}
-use Rattle.machine.specs.Event.{Event, notifies, delivers, pushes, findsFull, triesAndOwns, triesInVain, opens, links, closes, takesTicket, registers, waits, receives, owns, drains, fills, takes, takesNone, handsOver, leaves, works, ends}
-use Rattle.machine.specs.Step.{apply}
-use Rattle.machine.specs.View as view
+use Rattle.machine.specs.State.{Setup, Place, State}
+use Rattle.machine.specs.Event.{Event}
+use Rattle.machine.specs.Step.{effect, lockAfter, apply}
+use Rattle.machine.specs.Whereabouts.{lockStand}
 use Rattle.machine.specs.View.{Does}
-use Rattle.machine.specs.Safety.Lowered.{lowered-keeps}
-use Rattle.machine.specs.Safety.Locked.{stand, Locked}
+use Rattle.machine.specs.Safety.Locked.{Locked, LockMove, aside, operates, lock-move}
 
 -- an event moves its own worker alone
 pub place-other : (c : Setup) (s : State) (w : ℕ) (e : Event) (v : ℕ) → v ≢ w → (apply c s w e) .place v ≡ s .place v
-place-other c s w (notifies a f) v n = upd-other _ w _ v n
-place-other c s w (delivers m ms) v n = lowered-keeps (λ l p. p v ≡ s .place v) _ w _ _ (upd-other _ w _ v n)
-place-other c s w (pushes i is) v n = refl
-place-other c s w findsFull v n = upd-other _ w _ v n
-place-other c s w triesAndOwns v n = upd-other _ w _ v n
-place-other c s w triesInVain v n = upd-other _ w _ v n
-place-other c s w (opens i) v n = refl
-place-other c s w (links i a) v n = refl
-place-other c s w (closes i) v n = lowered-keeps (λ l p. p v ≡ s .place v) _ w _ _ refl
-place-other c s w takesTicket v n = upd-other _ w _ v n
-place-other c s w (registers t) v n = upd-other _ w _ v n
-place-other c s w waits v n = refl
-place-other c s w (receives i) v n = upd-other _ w _ v n
-place-other c s w owns v n = upd-other _ w _ v n
-place-other c s w (drains p k) v n = upd-other _ w _ v n
-place-other c s w (fills m u i is) v n = upd-other _ w _ v n
-place-other c s w (takes i is) v n = upd-other _ w _ v n
-place-other c s w takesNone v n = upd-other _ w _ v n
-place-other c s w (handsOver m) v n = upd-other _ w _ v n
-place-other c s w (leaves o) v n = upd-other _ w _ v n
-place-other c s w (works i m) v n = upd-other _ w _ v n
-place-other c s w (ends i) v n = upd-other _ w _ v n
+place-other c s w e v n = upd-other (s .place) w (effect c s w e .place) v n
 
 abbrev pub standing : State → ℕ → H.Stand
-standing s w = stand (s .place w)
+standing s w = lockStand (s .place w)
 
 abbrev pub Leads : State → ℕ → Type 0
 Leads s v = H.Owner (standing s v) ⊎ H.Called (s .lock) (standing s) v
@@ -61,46 +41,47 @@ module _ (c : Setup) (s : State) (i : Locked c (s .lock) (s .place)) where
   leader-of w t h l = go (Promise.leader i)
     where
       go : Promise.Leader (c .workers) (s .lock) (standing s) → (v : ℕ) × (v < c .workers) × Leads s v
-      go (Promise.nobody e) = let z : s .lock .tail ≡ suc (s .lock .head) = (Promise.free-iff i) .0 e in absurd (omega (arith, Promise.ticket-given i w t h))
+      go (Promise.nobody e) =
+          let z : s .lock .tail ≡ suc (s .lock .head) = (Promise.free-iff i) .0 e in absurd (omega (arith, Promise.ticket-given i w t h))
       go (Promise.called v b d) = (v, b, inr d)
       go (Promise.owner v b o) = (v, b, inl o)
 
   module _ (v : ℕ) (d : Leads s v) (x : ℕ) (n : x ≢ v) where
-    not-owner : {A : Type 0} (p : Place) → s .place x ≡ p → H.Owner (stand p) → A
-    not-owner p e o = absurd (leads-alone v x d n (rw e o))
+    untouched : (op : H.Op) → H.handsOver op ≡ 0 → H.fills op ≡ 0
+        → ((H.after (c .slots) (s .lock) x op) .tail ≡ s .lock .tail)
+        × ((H.after (c .slots) (s .lock) x op) .cellTicket v ≡ s .lock .cellTicket v)
+    untouched op z f =
+        (omega (arith, Promise.tail-after (c .slots) (s .lock) x op), ap (λ g. g v) ((Promise.cells-after (c .slots) (s .lock) x op f) .0))
 
-    -- what another worker's event leaves to the leader
+    -- what another worker's operation leaves to the leader
+    others-can : {op : H.Op} → H.Can (c .slots) (s .lock) (standing s x) x op
+        → ((H.after (c .slots) (s .lock) x op) .tail ≡ s .lock .tail)
+        × ((H.after (c .slots) (s .lock) x op) .cellTicket v ≡ s .lock .cellTicket v)
+    others-can (H.can-take e) = untouched H.take refl refl
+    others-can (H.can-register t e) = untouched (H.register t) refl refl
+    others-can (H.can-own t e q) = untouched (H.own t) refl refl
+    others-can (H.can-receive t j e q) = untouched (H.receive t j) refl refl
+    others-can (H.can-fill u j e f) = absurd (leads-alone v x d n (inl e))
+    others-can (H.can-pass e) = absurd (leads-alone v x d n (inr e))
+    others-can (H.can-leave e) = absurd (leads-alone v x d n (inl e))
+    others-can (H.can-try e f) =
+        let z : s .lock .tail ≡ suc (s .lock .head) = (Promise.free-iff i) .0 f in absurd (omega (arith, leads-busy v d))
+
+    others-by : {o : Option H.Op} {p : Place} → LockMove c s x o p
+        → ((lockAfter c (s .lock) x o) .tail ≡ s .lock .tail) × ((lockAfter c (s .lock) x o) .cellTicket v ≡ s .lock .cellTicket v)
+    others-by (aside e) = (refl, refl)
+    others-by (operates op can e) = others-can can
+
     pub others-lock : {e : Event} → Does c s x e
         → ((apply c s x e) .lock .tail ≡ s .lock .tail) × ((apply c s x e) .lock .cellTicket v ≡ s .lock .cellTicket v)
-    others-lock (view.does-notify a f p) = (refl, refl)
-    others-lock (view.does-deliver m ms p q) = lowered-keeps (λ l p. (l .tail ≡ s .lock .tail) × (l .cellTicket v ≡ s .lock .cellTicket v)) _ x _ _ (refl, refl)
-    others-lock (view.does-push j js p q a l) = (refl, refl)
-    others-lock (view.does-find-full j js p q a l) = (refl, refl)
-    others-lock (view.does-win p f) = let z : s .lock .tail ≡ suc (s .lock .head) = (Promise.free-iff i) .0 f in absurd (omega (arith, leads-busy v d))
-    others-lock (view.does-fail p f) = (refl, refl)
-    others-lock (view.does-open j r z e l) = (refl, refl)
-    others-lock (view.does-link j a r z e l) = (refl, refl)
-    others-lock (view.does-close j a r z e l) = lowered-keeps (λ l p. (l .tail ≡ s .lock .tail) × (l .cellTicket v ≡ s .lock .cellTicket v)) _ x _ _ (refl, refl)
-    others-lock (view.does-take-ticket r z) = (refl, refl)
-    others-lock (view.does-register t p) = (refl, refl)
-    others-lock (view.does-wait t p q) = (refl, refl)
-    others-lock (view.does-receive t j p q) = (refl, refl)
-    others-lock (view.does-own t p q) = (refl, refl)
-    others-lock (view.does-drain u k p) = not-owner (draining u k) p (inl refl)
-    others-lock (view.does-fill m u j js p q f l) = not-owner (serving m) p (inl refl)
-    others-lock (view.does-take m j js p q) = not-owner (serving m) p (inl refl)
-    others-lock (view.does-take-none m p q) = not-owner (serving m) p (inl refl)
-    others-lock (view.does-hand-over m p) = not-owner (handing m) p (inr refl)
-    others-lock (view.does-leave o p) = not-owner (leaving o) p (inl refl)
-    others-lock (view.does-work j m p) = (refl, refl)
-    others-lock (view.does-end j p) = (refl, refl)
+    others-lock u = others-by (lock-move c s x u)
 
     -- the leader leads on
     pub others-lead : {e : Event} → Does c s x e → Leads (apply c s x e) v
     others-lead {e} u = go d
       where
         still : standing (apply c s x e) v ≡ standing s v
-        still = ap stand (place-other c s x e v (λ z. n (sym z)))
+        still = ap lockStand (place-other c s x e v (λ z. n (sym z)))
 
         go : Leads s v → Leads (apply c s x e) v
         go (inl o) = inl (rw still o)

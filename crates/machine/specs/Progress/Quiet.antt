@@ -4,82 +4,113 @@ use native.Mathlib.Omega.{arith}
 use mathlib.Core.Path.{_≡_, refl, sym, ap, _∙_}
 use mathlib.Core.Logic.{_⊎_, inl, inr, _≢_}
 use mathlib.Core.Bool.{true, false}
-use mathlib.Core.List.{List, [], _∷_, append-nil}
-use mathlib.Core.Option.{Option}
-use lib.ListN.{length}
+use mathlib.Core.List.{List, [], _∷_, _++_, append-nil}
+use lib.ListN.{length, length-append}
 use Rattle.runs.specs.Update.{upd, upd-id}
+use Rattle.runs.specs.Sums.{sum, sum-upd, sum-const}
 use Rattle.lock.specs.Lock as L
-use Rattle.machine.specs.State.{Setup, Purpose, idle, trying, registering, looking, draining, serving, handing, leaving, opening, State, start}
-use Rattle.machine.specs.Event.{Event, findsFull, triesAndOwns, triesInVain, takesTicket, registers, waits, owns, drains, takesNone, handsOver, leaves}
-use Rattle.machine.specs.Step.{apply}
-use Rattle.machine.specs.View.{AtRest, Does, does-notify, does-deliver, does-push, does-find-full, does-win, does-fail, does-open, does-link, does-close, does-take-ticket, does-register, does-wait, does-receive, does-own, does-drain, does-fill, does-take, does-take-none, does-hand-over, does-leave, does-work, does-end}
-use Rattle.machine.specs.Safety.LinkLaws.{total}
-use Rattle.machine.specs.Safety.Locked.{locked-keep, cell-facts}
-use Rattle.machine.specs.Safety.Tasks.{task-facts}
-use Rattle.machine.specs.Safety.TaskSteps.{tasks-keep}
-use Rattle.machine.specs.Safety.Dependences.{dependences-keep}
-use Rattle.machine.specs.Safety.Invariant.{Playable, Inv, laws, receipt-facts}
-use Rattle.machine.specs.Progress.Work.{left, progress, left-falls, left-start}
-use Rattle.machine.specs.Progress.TaskWork.{totalCost, taskWork, taskProgress, task-work-start, task-work-falls}
+use Rattle.lock.specs.History as LH
+use Rattle.tasks.specs.History as H
+use Rattle.tasks.specs.Playing as P
+use Rattle.tasks.specs.Playing.{by}
+use Rattle.tasks.specs.Promise as Tasks
+use Rattle.tasks.specs.Promise.{workLeft, toGive, totalCost, total}
+use Rattle.machine.specs.State.{Setup, Purpose, trying, registering, looking, draining, serving, handing, leaving, State, start}
+use Rattle.machine.specs.Event.{Event, minds, pushes, findsFull, triesAndOwns, triesInVain, takesTicket, registers, waits, receives, owns, drains, fills, takes, takesNone, handsOver, leaves}
+use Rattle.machine.specs.Step.{apply, lockOp, taskOp}
+use Rattle.machine.specs.Trace.{byLock}
+use Rattle.machine.specs.View.{AtRest, AllCreated, Does, does-mind, does-push, does-find-full, does-win, does-fail, does-take-ticket, does-register, does-wait, does-receive, does-own, does-drain, does-fill, does-take, does-take-none, does-hand-over, does-leave}
+use Rattle.machine.specs.Safety.Ends.{cells-kept}
+use Rattle.machine.specs.Safety.Device.{drains-below}
+use Rattle.machine.specs.Safety.Invariant.{Playable, Inv, may-do}
 
--- the progress steps that are still possible at the most
+-- the tasks that are still to be drained
+abbrev undrained : Setup → State → ℕ
+undrained c s = toGive (c .workers) (c .tasks) (s .tasks) + sum (c .workers) (λ w. length (s .queue w))
+
+-- the progress steps that are still possible at the most: operations of the tasks, and drains of a task
 abbrev pub work : Setup → State → ℕ
-work c s = left c s + taskWork c s
+work c s = workLeft (c .workers) (c .tasks) (s .tasks) (s .stand) + undrained c s
+
+-- how many tasks an event drains
+abbrev pub drained : State → Event → ℕ
+drained s (minds d) = 0
+drained s (pushes i is) = 0
+drained s findsFull = 0
+drained s triesAndOwns = 0
+drained s triesInVain = 0
+drained s takesTicket = 0
+drained s (registers t) = 0
+drained s waits = 0
+drained s (receives t i) = 0
+drained s (owns t) = 0
+drained s (drains p k) = length (s .queue k)
+drained s (fills n v i is) = 0
+drained s (takes i is) = 0
+drained s takesNone = 0
+drained s (handsOver n) = 0
+drained s leaves = 0
 
 -- what an event takes of it at least
 abbrev pub gain : State → Event → ℕ
-gain s e = progress e + taskProgress s e
+gain s e = by (λ _. 1) (taskOp e) + drained s e
 
 module _ (c : Setup) (playable : Playable c) where
-  pub work-start : work c (start c) ≡ 7 * length (c .tasks) + 7 * total (c .tasks) + totalCost c
-  work-start = omega (arith, left-start c (laws c playable), task-work-start c)
+  pub work-start : work c (start c) ≡ 7 * length (c .tasks) + 7 * total (c .tasks) + totalCost (c .tasks)
+  unfolding start
+  work-start = omega (arith, Tasks.work-start (c .workers) (c .tasks), Tasks.gives-start (c .workers) (c .tasks), sum-const (c .workers) 0)
 
   module _ (s : State) (v : Inv c s) (w : ℕ) (hw : w < c .workers) where
-    -- the invariant over one event
-    pub inv-keep : {e : Event} → Does c s w e → Inv c (apply c s w e)
-    inv-keep d =
-        let cells = cell-facts c s (v .locked) in
-        record {
-          locked = locked-keep c s (v .locked) w hw d;
-          tasks = tasks-keep c s w cells hw d (v .tasks);
-          dependences = dependences-keep c (laws c playable) s (task-facts c s (v .tasks)) (receipt-facts c playable s cells (v .tasks)) (v .dependences) w hw d;
-        }
+    queues-after : {e : Event} → Does c s w e
+        → sum (c .workers) (λ u. length ((apply c s w e) .queue u)) + drained s e
+        ≡ sum (c .workers) (λ u. length (s .queue u)) + by H.isGive (taskOp e)
+    queues-after (does-mind d p can) = refl
+    queues-after (does-push i js r d l) =
+        omega (arith, sum-upd (c .workers) length (s .queue) w (s .queue w ++ i ∷ []) hw, length-append (s .queue w) (i ∷ []))
+    queues-after (does-find-full i js r d l) = refl
+    queues-after (does-win p q) = refl
+    queues-after (does-fail p q) = refl
+    queues-after (does-take-ticket r d z) = refl
+    queues-after (does-register t p) = refl
+    queues-after (does-wait t p q) = refl
+    queues-after (does-receive t i p q) = refl
+    queues-after (does-own t p q) = refl
+    queues-after (does-drain u k p) = omega (arith, sum-upd (c .workers) length (s .queue) k [] (drains-below c s (v .device) w u k p))
+    queues-after (does-fill n x i js p q f l) = refl
+    queues-after (does-take n i js p q) = refl
+    queues-after (does-take-none n p q) = refl
+    queues-after (does-hand-over n p) = refl
+    queues-after (does-leave p) = refl
 
     -- work left never rises, and falls with each progress step
     pub work-falls : {e : Event} → Does c s w e → work c (apply c s w e) + gain s e ≤ work c s
-    work-falls d =
-        omega (
-          arith,
-          left-falls c (laws c playable) s (v .dependences .messages) w hw d (inv-keep d .dependences .messages),
-          task-work-falls c s (cell-facts c s (v .locked)) (v .tasks) w hw d,
-        )
+    work-falls {e} d =
+        let m = may-do c s v w hw d in
+        omega
+        (arith, queues-after d, P.work-by (v .tasked) w hw (s .picks) (taskOp e) m, P.gives-by (v .tasked) w hw (s .picks) (taskOp e) m)
 
 -- a pick that is no progress
 pub data Quiet (c : Setup) (s : State) (w : ℕ) : Event → Type 0 where
-  quiet-full : (i : ℕ) (is : List ℕ) → s .place w ≡ idle → s .mail w ≡ [] → s .adds w ≡ i ∷ is → c .capacity ≤ length (s .queue w) → Quiet c s w findsFull
+  quiet-full : (i : ℕ) (is : List ℕ) → AtRest s w → s .tasks .adds w ≡ i ∷ is → c .capacity ≤ length (s .queue w) → Quiet c s w findsFull
   quiet-win : s .place w ≡ trying → L.isFree (s .lock) ≡ true → Quiet c s w triesAndOwns
   quiet-fail : s .place w ≡ trying → L.isFree (s .lock) ≡ false → Quiet c s w triesInVain
-  quiet-ticket : AtRest s w → (w ≢ 0) ⊎ ((i : ℕ) × (s .creation ≡ opening i) × (length (c .tasks) ≤ i)) → Quiet c s w takesTicket
+  quiet-ticket : AtRest s w → s .tasks .adds w ≡ [] → (w ≢ 0) ⊎ AllCreated c s → Quiet c s w takesTicket
   quiet-register : (t : ℕ) → s .place w ≡ registering t → Quiet c s w (registers t)
   quiet-wait : (t : ℕ) → s .place w ≡ looking t → L.look (c .slots) (s .lock) t w ≡ L.notYet → Quiet c s w waits
-  quiet-own : (t : ℕ) → s .place w ≡ looking t → L.look (c .slots) (s .lock) t w ≡ L.owns → Quiet c s w owns
+  quiet-own : (t : ℕ) → s .place w ≡ looking t → L.look (c .slots) (s .lock) t w ≡ L.owns → Quiet c s w (owns t)
   quiet-drain : (p : Purpose) (k : ℕ) → s .place w ≡ draining p k → s .queue k ≡ [] → Quiet c s w (drains p k)
   quiet-none : (n : ℕ) → s .place w ≡ serving n → s .readyList ≡ [] → Quiet c s w takesNone
   quiet-hand : (n : ℕ) → s .place w ≡ handing n → Quiet c s w (handsOver n)
-  quiet-leave : (o : Option ℕ) → s .place w ≡ leaving o → Quiet c s w (leaves o)
+  quiet-leave : s .place w ≡ leaving → Quiet c s w leaves
 
 module _ (c : Setup) (s : State) (w : ℕ) where
   pub gains-or-quiet : {e : Event} → Does c s w e → (0 < gain s e) ⊎ Quiet c s w e
-  gains-or-quiet (does-notify a f p) = inl (omega arith)
-  gains-or-quiet (does-deliver m ms p q) = inl (omega arith)
-  gains-or-quiet (does-push i js p q d l) = inl (omega arith)
-  gains-or-quiet (does-find-full i js p q d l) = inr (quiet-full i js p q d l)
+  gains-or-quiet (does-mind d p can) = inl (omega arith)
+  gains-or-quiet (does-push i js r d l) = inl (omega arith)
+  gains-or-quiet (does-find-full i js r d l) = inr (quiet-full i js r d l)
   gains-or-quiet (does-win p q) = inr (quiet-win p q)
   gains-or-quiet (does-fail p q) = inr (quiet-fail p q)
-  gains-or-quiet (does-open i r z e l) = inl (omega arith)
-  gains-or-quiet (does-link i a r z e l) = inl (omega arith)
-  gains-or-quiet (does-close i a r z e l) = inl (omega arith)
-  gains-or-quiet (does-take-ticket r d) = inr (quiet-ticket r d)
+  gains-or-quiet (does-take-ticket r d z) = inr (quiet-ticket r d z)
   gains-or-quiet (does-register t p) = inr (quiet-register t p)
   gains-or-quiet (does-wait t p q) = inr (quiet-wait t p q)
   gains-or-quiet (does-receive t i p q) = inl (omega arith)
@@ -93,38 +124,37 @@ module _ (c : Setup) (s : State) (w : ℕ) where
   gains-or-quiet (does-take n i js p q) = inl (omega arith)
   gains-or-quiet (does-take-none n p q) = inr (quiet-none n p q)
   gains-or-quiet (does-hand-over n p) = inr (quiet-hand n p)
-  gains-or-quiet (does-leave o p) = inr (quiet-leave o p)
-  gains-or-quiet (does-work i n p) = inl (omega arith)
-  gains-or-quiet (does-end i p) = inl (omega arith)
+  gains-or-quiet (does-leave p) = inr (quiet-leave p)
 
 -- what a quiet pick leaves as it is
 pub record Unmoved (s u : State) : Type 0 where
-  pub mail : u .mail ≡ s .mail
-  pub adds : u .adds ≡ s .adds
+  pub tasks : u .tasks ≡ s .tasks
+  pub stand : u .stand ≡ s .stand
   pub queue : u .queue ≡ s .queue
   pub readyList : u .readyList ≡ s .readyList
-  pub creation : u .creation ≡ s .creation
   pub cells : u .lock .cellTicket ≡ s .lock .cellTicket
 
 module _ (c : Setup) (s : State) (w : ℕ) where
+  cells-of : (e : Event) → byLock LH.fills (lockOp e) ≡ 0 → (apply c s w e) .lock .cellTicket ≡ s .lock .cellTicket
+  cells-of e n = (cells-kept c s w e n) .0
+
   -- places and the lock's head, tail and slots apart
   pub unmoved : {e : Event} → Quiet c s w e → Unmoved s (apply c s w e)
-  unmoved (quiet-full i is p q d l) = record { mail = refl; adds = refl; queue = refl; readyList = refl; creation = refl; cells = refl }
-  unmoved (quiet-win p q) = record { mail = refl; adds = refl; queue = refl; readyList = refl; creation = refl; cells = refl }
-  unmoved (quiet-fail p q) = record { mail = refl; adds = refl; queue = refl; readyList = refl; creation = refl; cells = refl }
-  unmoved (quiet-ticket r d) = record { mail = refl; adds = refl; queue = refl; readyList = refl; creation = refl; cells = refl }
-  unmoved (quiet-register t p) = record { mail = refl; adds = refl; queue = refl; readyList = refl; creation = refl; cells = refl }
-  unmoved (quiet-wait t p q) = record { mail = refl; adds = refl; queue = refl; readyList = refl; creation = refl; cells = refl }
-  unmoved (quiet-own t p q) = record { mail = refl; adds = refl; queue = refl; readyList = refl; creation = refl; cells = refl }
+  unmoved (quiet-full i is r d l) = record { tasks = refl; stand = refl; queue = refl; readyList = refl; cells = refl }
+  unmoved (quiet-win p q) = record { tasks = refl; stand = refl; queue = refl; readyList = refl; cells = cells-of triesAndOwns refl }
+  unmoved (quiet-fail p q) = record { tasks = refl; stand = refl; queue = refl; readyList = refl; cells = refl }
+  unmoved (quiet-ticket r d z) = record { tasks = refl; stand = refl; queue = refl; readyList = refl; cells = cells-of takesTicket refl }
+  unmoved (quiet-register t p) = record { tasks = refl; stand = refl; queue = refl; readyList = refl; cells = cells-of (registers t) refl }
+  unmoved (quiet-wait t p q) = record { tasks = refl; stand = refl; queue = refl; readyList = refl; cells = refl }
+  unmoved (quiet-own t p q) = record { tasks = refl; stand = refl; queue = refl; readyList = refl; cells = cells-of (owns t) refl }
   unmoved (quiet-drain u k p q) =
       record {
-        mail = refl;
-        adds = refl;
+        tasks = refl;
+        stand = refl;
         queue = ap (upd (s .queue) k) (sym q) ∙ upd-id (s .queue) k;
         readyList = rw q (append-nil (s .readyList));
-        creation = refl;
         cells = refl;
       }
-  unmoved (quiet-none n p q) = record { mail = refl; adds = refl; queue = refl; readyList = refl; creation = refl; cells = refl }
-  unmoved (quiet-hand n p) = record { mail = refl; adds = refl; queue = refl; readyList = refl; creation = refl; cells = refl }
-  unmoved (quiet-leave o p) = record { mail = refl; adds = refl; queue = refl; readyList = refl; creation = refl; cells = refl }
+  unmoved (quiet-none n p q) = record { tasks = refl; stand = refl; queue = refl; readyList = refl; cells = refl }
+  unmoved (quiet-hand n p) = record { tasks = refl; stand = refl; queue = refl; readyList = refl; cells = cells-of (handsOver n) refl }
+  unmoved (quiet-leave p) = record { tasks = refl; stand = refl; queue = refl; readyList = refl; cells = cells-of leaves refl }

@@ -1,20 +1,17 @@
--- All that holds of every state that picks lead to, in one record.
+-- All that holds of every state that picks lead to: the lock's promise, the tasks' promise, and what the device keeps.
 use Prim.Native.Nat.{ℕ, _≤_, _<_}
 use mathlib.Core.List.{List}
-use lib.ListN.{length}
 use Rattle.runs.specs.Picks.{Picks, run}
-use Rattle.machine.specs.Accesses.{taskAt}
-use Rattle.machine.specs.State.{Setup, State, start}
-use Rattle.machine.specs.Step.{step, pick, after}
-use Rattle.machine.specs.Safety.Links.{Distinct, links}
-use Rattle.machine.specs.Safety.LinkLaws.{Links}
-use Rattle.machine.specs.Safety.Facts.{CellFacts, ReceiptFacts}
-use Rattle.machine.specs.Safety.Locked.{Locked, locked-start, cell-facts}
-use Rattle.machine.specs.Safety.Turns.{locked-step}
-use Rattle.machine.specs.Safety.Tasks.{Tasks, tasks-start, task-facts, first-ready, celled}
-use Rattle.machine.specs.Safety.TaskSteps.{tasks-step}
-use Rattle.machine.specs.Safety.Dependences.{Dependences, dependences-start, dependences-step}
-use Rattle.machine.specs.Safety.Bounds.{Bounds, bounds-start, bounds-step}
+use Rattle.tasks.specs.Accesses.{Distinct}
+use Rattle.tasks.specs.Playing as P
+use Rattle.tasks.specs.Promise as Promise
+use Rattle.machine.specs.State.{Setup, State, start, picked}
+use Rattle.machine.specs.Event.{Event}
+use Rattle.machine.specs.Step.{taskOp, apply, step, pick, after}
+use Rattle.machine.specs.View.{Does, does-step}
+use Rattle.machine.specs.Safety.Locked.{Locked, locked-start, locked-keep}
+use Rattle.machine.specs.Safety.Device.{Tasked, Device, device-start}
+use Rattle.machine.specs.Safety.Tasked.{task-may, tasked-keep, device-keep}
 use Rattle.machine.specs.Safety.Traces.{run-inv}
 
 -- what a run may be played with: a ring with a slot for each worker, queues with room for a task, no address twice in a task
@@ -26,28 +23,44 @@ pub record Playable (c : Setup) : Type 0 where
 
 pub record Inv (c : Setup) (s : State) : Type 0 where
   pub locked : Locked c (s .lock) (s .place)
-  pub tasks : Tasks c s
-  pub dependences : Dependences c s
+  pub tasked : Tasked c (s .tasks) (s .stand)
+  pub device : Device c s
+
+-- each event is an operation of the tasks that its worker may do, or none
+pub may-do : (c : Setup) (s : State) → Inv c s → (w : ℕ) → w < c .workers → {e : Event} → Does c s w e
+    → P.May (c .workers) (c .tasks) (s .tasks) (s .stand w) w (taskOp e)
+may-do c s v w l d = task-may c s (v .locked) (v .tasked) (v .device) w l d
 
 module _ (c : Setup) (playable : Playable c) where
-  pub laws : Links (c .tasks)
-  laws = links (c .tasks) (playable .distinct)
-
   pub inv-start : Inv c (start c)
-  inv-start = record { locked = locked-start c (playable .workers) (playable .ring); tasks = tasks-start c; dependences = dependences-start c laws }
+  unfolding start
+  inv-start =
+      record {
+        locked = locked-start c (playable .workers) (playable .ring);
+        tasked = Promise.kept-start (c .workers) (c .tasks) (playable .distinct);
+        device = device-start c;
+      }
 
-  pub receipt-facts : (s : State) → CellFacts c s → Tasks c s → ReceiptFacts c s
-  receipt-facts s cells h =
-      record { front-ready = first-ready c s h; cell-held = λ w t i l p q. let (a, b) = cells .received w t i l q in celled c s h w t i l p a b }
+  -- counting the pick changes none of it
+  pub inv-picked : (s : State) → Inv c s → Inv c (picked s)
+  inv-picked s v =
+      record {
+        locked = v .locked;
+        tasked = v .tasked;
+        device = record { stored = v .device .stored; boxes = v .device .boxes; fits = v .device .fits };
+      }
+
+  pub inv-keep : (s : State) → Inv c s → (w : ℕ) → w < c .workers → {e : Event} → Does c s w e → Inv c (apply c s w e)
+  inv-keep s v w l d =
+      record {
+        locked = locked-keep c s w (v .locked) l d;
+        tasked = tasked-keep c s (v .locked) (v .tasked) (v .device) w l d;
+        device = device-keep c s (v .locked) (v .tasked) (v .device) w l d;
+      }
 
   pub inv-step : (s : State) (w : ℕ) → w < c .workers → Inv c s → Inv c (step c s w)
-  inv-step s w l v =
-      let cells = cell-facts c s (v .locked) in
-      record {
-        locked = locked-step c s w l (v .locked);
-        tasks = tasks-step c s w cells l (v .tasks);
-        dependences = dependences-step c laws s (task-facts c s (v .tasks)) (receipt-facts s cells (v .tasks)) (v .dependences) w l;
-      }
+  unfolding step
+  inv-step s w l v = inv-keep (picked s) (inv-picked s v) w l (does-step c s w)
 
   pub inv-run : (ws : List ℕ) → Picks (c .workers) ws → (s : State) → Inv c s → Inv c (run (pick c) s ws)
   inv-run = run-inv c (Inv c) inv-step
@@ -55,10 +68,3 @@ module _ (c : Setup) (playable : Playable c) where
   pub inv-after : (ws : List ℕ) → Picks (c .workers) ws → Inv c (after c ws)
   unfolding after
   inv-after ws p = inv-run ws p (start c) inv-start
-
-  -- with at most n accesses in a task, for the sizes that a layout gives to queues and mailboxes
-  module _ (n : ℕ) (any : 0 < n) (few : (i : ℕ) → length (taskAt (c .tasks) i .accesses) ≤ n) where
-    pub bounds-after : (ws : List ℕ) → Picks (c .workers) ws → Bounds c n (after c ws)
-    unfolding after
-    bounds-after ws p =
-        (run-inv c (λ s. Bounds c n s × Inv c s) (λ s w l (b, v). (bounds-step c n any few s w (v .tasks) b, inv-step s w l v)) ws p (start c) (bounds-start c n any few, inv-start)) .0

@@ -1,6 +1,5 @@
--- The machine's lock keeps the lock's promise: each event is one operation of the lock, or leaves it alone.
+-- The machine's lock keeps the lock's promise: each event is one operation of the lock that its worker may do, or leaves the lock alone.
 use Prim.Native.Nat.{ℕ, suc, _≤_, _<_}
-use native.Mathlib.Omega.{arith}
 use mathlib.Core.Path.{_≡_, refl, sym, ap, subst, _∙_}
 use mathlib.Core.Bool.{Bool, true, false}
 use mathlib.Core.Option.{Option, none, some}
@@ -8,123 +7,93 @@ use lib.Dec.{ltb}
 use Rattle.runs.specs.Update.{upd, upd-id, map-upd, clash}
 use Rattle.lock.specs.Lock as L
 use Rattle.lock.specs.History as H
-use Rattle.lock.specs.Invariant as I
-use Rattle.lock.specs.Keeps as K
-use Rattle.lock.specs.Looks as Looks
 use Rattle.lock.specs.Promise as Promise
-use Rattle.machine.specs.State.{Setup, Purpose, Place, idle, notifying, trying, registering, looking, draining, serving, handing, leaving, working, Message, forServing, forAdding, State, start}
+use Rattle.lock.specs.Promise.{Kept}
+use Rattle.machine.specs.State.{Setup, Purpose, Place, idle, trying, registering, looking, draining, serving, handing, leaving, forServing, forAdding, State, start}
 use Rattle.machine.specs.Event.{Event}
-use Rattle.machine.specs.Step.{apply, afterDraining, nextDrain, noticeOf, startWork, afterLeaving}
-use Rattle.machine.specs.Safety.Lowered.{lowered-keeps}
+use Rattle.machine.specs.Step.{apply, lockOp, effect, lockAfter, afterDraining, nextDrain}
+use Rattle.machine.specs.Whereabouts.{lockStand}
 use Rattle.machine.specs.View as view
 use Rattle.machine.specs.View.{Does}
-use Rattle.machine.specs.Safety.Facts.{CellFacts}
 
--- where a worker stands with the lock
-abbrev pub stand : Place → H.Stand
-stand idle = H.out
-stand (notifying a f) = H.out
-stand trying = H.out
-stand (registering t) = H.taken t
-stand (looking t) = H.waiting t
-stand (draining p k) = H.owning
-stand (serving n) = H.owning
-stand (handing n) = H.serving
-stand (leaving o) = H.owning
-stand (working i n) = H.out
+-- where the workers stand with the lock
+abbrev pub lockStands : (ℕ → Place) → ℕ → H.Stand
+lockStands place w = lockStand (place w)
 
 abbrev pub Locked : Setup → L.Lock → (ℕ → Place) → Type 0
-Locked c l place = I.Inv (c .workers) (c .slots) l (λ w. stand (place w))
+Locked c l place = Kept (c .workers) (c .slots) l (lockStands place)
 
 pub locked-start : (c : Setup) → 0 < c .workers → c .workers ≤ c .slots → Locked c ((start c) .lock) ((start c) .place)
 unfolding start
-locked-start c any fits = K.starts (c .workers) (c .slots) any fits
+locked-start c any fits = Promise.kept-start (c .workers) (c .slots) any fits
 
-module _ (c : Setup) (s : State) (i : Locked c (s .lock) (s .place)) (w : ℕ) (h : w < c .workers) where
-  -- an operation of the lock, and the place that goes with it
-  operates : (op : H.Op) (p : Place) → H.Can (c .slots) (s .lock) (stand (s .place w)) w op → stand p ≡ H.standAfter (s .lock) op
-      → Locked c (H.after (c .slots) (s .lock) w op) (upd (s .place) w p)
-  operates op p can e =
-      subst (λ (st : ℕ → H.Stand). I.Inv (c .workers) (c .slots) (H.after (c .slots) (s .lock) w op) st)
-      (sym (map-upd stand (s .place) w p ∙ ap (upd (λ v. stand (s .place v)) w) e))
-      (K.keeps i w h op can)
+-- what an event is to the lock: nothing, and its worker stands with the lock as before; or an operation that its worker may do
+pub data LockMove (c : Setup) (s : State) (w : ℕ) : Option H.Op → Place → Type 0 where
+  aside : {p : Place} → lockStand p ≡ lockStand (s .place w) → LockMove c s w none p
+  operates : {p : Place} (op : H.Op) → H.Can (c .slots) (s .lock) (lockStand (s .place w)) w op
+      → lockStand p ≡ H.standAfter (s .lock) op → LockMove c s w (some op) p
 
-  -- another place at which the worker stands with the lock as before
-  moves : (p : Place) → stand p ≡ stand (s .place w) → Locked c (s .lock) (upd (s .place) w p)
-  moves p e =
-      subst (λ (st : ℕ → H.Stand). I.Inv (c .workers) (c .slots) (s .lock) st)
-      (sym (map-upd stand (s .place) w p ∙ ap (upd (λ v. stand (s .place v)) w) e ∙ upd-id (λ v. stand (s .place v)) w))
-      i
+-- a drain keeps the owner an owner
+drained : (c : Setup) (p : Purpose) (k : ℕ) → lockStand (nextDrain c p k) ≡ H.owning
+unfolding nextDrain
+drained c p k = go p (ltb (suc k) (c .workers))
+  where
+    go : (u : Purpose) (b : Bool) → lockStand (elim b [ true ↦ draining p (suc k) | false ↦ afterDraining c u ]) ≡ H.owning
+    go u true = refl
+    go forServing false = refl
+    go forAdding false = refl
 
-  -- a place where the worker is out of the lock, from another
-  steps-out : (p q : Place) → s .place w ≡ q → stand q ≡ H.out → stand p ≡ H.out → Locked c (s .lock) (upd (s .place) w p)
-  steps-out p q e a b = moves p (b ∙ sym (ap stand e ∙ a))
+module _ (c : Setup) (s : State) (w : ℕ) where
+  pub lock-move : {e : Event} → Does c s w e → LockMove c s w (lockOp e) (effect c s w e .place)
+  lock-move (view.does-mind d p can) = aside (sym (ap lockStand p))
+  lock-move (view.does-push j js r d l) = aside (sym (ap lockStand (r .place)))
+  lock-move (view.does-find-full j js r d l) = aside (sym (ap lockStand (r .place)))
+  lock-move (view.does-win p f) = operates H.try (H.can-try (ap lockStand p) f) refl
+  lock-move (view.does-fail p f) = aside (sym (ap lockStand p))
+  lock-move (view.does-take-ticket r d z) = operates H.take (H.can-take (ap lockStand (r .place))) refl
+  lock-move (view.does-register t p) = operates (H.register t) (H.can-register t (ap lockStand p)) refl
+  lock-move (view.does-wait t p q) = aside refl
+  lock-move (view.does-receive t j p q) = operates (H.receive t j) (H.can-receive t j (ap lockStand p) q) refl
+  lock-move (view.does-own t p q) = operates (H.own t) (H.can-own t (ap lockStand p) q) refl
+  lock-move (view.does-drain u k p) = aside (drained c u k ∙ sym (ap lockStand p))
+  lock-move (view.does-fill n v j js p q f l) = operates (H.fill v j) (H.can-fill v j (ap lockStand p) f) refl
+  lock-move (view.does-take n j js p q) = aside (sym (ap lockStand p))
+  lock-move (view.does-take-none n p q) = aside (sym (ap lockStand p))
+  lock-move (view.does-hand-over n p) = operates H.pass (H.can-pass (ap lockStand p)) refl
+  lock-move (view.does-leave p) = operates H.leave (H.can-leave (ap lockStand p)) refl
 
-  noticed : (m : Message) (o : Option ℕ) → stand (noticeOf c m o) ≡ H.out
-  noticed m none = refl
-  noticed m (some b) = refl
+  -- where the workers stand with the lock then
+  stands : (p : Place) (x : H.Stand) → lockStand p ≡ x
+      → _≡_ {A = ℕ → H.Stand} (lockStands (upd (s .place) w p)) (upd (lockStands (s .place)) w x)
+  stands p x e = map-upd lockStand (s .place) w p ∙ ap (upd (lockStands (s .place)) w) e
 
-  drained : (p : Purpose) → stand (afterDraining c p) ≡ H.owning
-  drained forServing = refl
-  drained forAdding = refl
+  abbrev pub standsAfter : Option H.Op → ℕ → H.Stand
+  standsAfter none = lockStands (s .place)
+  standsAfter (some op) = upd (lockStands (s .place)) w (H.standAfter (s .lock) op)
 
-  draining-on : (p : Purpose) (k : ℕ) → stand (nextDrain c p k) ≡ H.owning
-  unfolding nextDrain
-  draining-on p k = go (ltb (suc k) (c .workers))
-    where
-      go : (b : Bool) → stand (elim b [ true ↦ draining p (suc k) | false ↦ afterDraining c p ]) ≡ H.owning
-      go true = refl
-      go false = drained p
+  pub moved-stands : {o : Option H.Op} {p : Place} → LockMove c s w o p
+      → _≡_ {A = ℕ → H.Stand} (lockStands (upd (s .place) w p)) (standsAfter o)
+  moved-stands (aside {p} e) = stands p (lockStand (s .place w)) e ∙ upd-id (lockStands (s .place)) w
+  moved-stands (operates {p} op can e) = stands p (H.standAfter (s .lock) op) e
 
-  left : (o : Option ℕ) → stand (afterLeaving c o) ≡ H.out
-  left none = refl
-  left (some j) = refl
+  module _ (i : Locked c (s .lock) (s .place)) (h : w < c .workers) where
+    moved : {o : Option H.Op} {p : Place} → LockMove c s w o p → Locked c (lockAfter c (s .lock) w o) (upd (s .place) w p)
+    moved (aside {p} e) = subst (λ (st : ℕ → H.Stand). Kept (c .workers) (c .slots) (s .lock) st) (sym (moved-stands (aside {p = p} e))) i
+    moved (operates {p} op can e) =
+        subst (λ (st : ℕ → H.Stand). Kept (c .workers) (c .slots) (H.after (c .slots) (s .lock) w op) st)
+        (sym (moved-stands (operates {p = p} op can e))) (Promise.kept-after i w h op can)
 
-  pub locked-keep : {e : Event} → Does c s w e → Locked c ((apply c s w e) .lock) ((apply c s w e) .place)
-  locked-keep (view.does-notify a f p) = steps-out idle (notifying a f) p refl refl
-  locked-keep (view.does-deliver m ms p q) = lowered-keeps (Locked c) _ w _ _ (steps-out (noticeOf c m (m .sender)) idle p refl (noticed m (m .sender)))
-  locked-keep (view.does-push j js p q d l) = i
-  locked-keep (view.does-find-full j js p q d l) = steps-out trying idle p refl refl
-  locked-keep (view.does-win p f) = operates H.try (draining forAdding 0) (ap stand p, f) refl
-  locked-keep (view.does-fail p f) = steps-out idle trying p refl refl
-  locked-keep (view.does-open j r z e l) = i
-  locked-keep (view.does-link j a r z e l) = i
-  locked-keep (view.does-close j a r z e l) = lowered-keeps (Locked c) _ w _ _ i
-  locked-keep (view.does-take-ticket r z) = operates H.take (registering (s .lock .head)) (ap stand (r .place)) refl
-  locked-keep (view.does-register t p) = operates (H.register t) (looking t) (ap stand p) refl
-  locked-keep (view.does-wait t p q) = i
-  locked-keep (view.does-receive t j p q) = operates (H.receive t j) (startWork c j) (ap stand p, q) refl
-  locked-keep (view.does-own t p q) = operates (H.own t) (draining forServing 0) (ap stand p, q) refl
-  locked-keep (view.does-drain u k p) = moves (nextDrain c u k) (draining-on u k ∙ sym (ap stand p))
-  locked-keep (view.does-fill n v j js p q f l) = operates (H.fill v j) (handing n) (ap stand p, f) refl
-  locked-keep (view.does-take n j js p q) = moves (leaving (some j)) (sym (ap stand p))
-  locked-keep (view.does-take-none n p q) = moves (leaving none) (sym (ap stand p))
-  locked-keep (view.does-hand-over n p) = operates H.pass (serving (suc n)) (ap stand p) refl
-  locked-keep (view.does-leave o p) = operates H.leave (afterLeaving c o) (ap stand p) (left o)
-  locked-keep (view.does-work j n p) = steps-out (working j n) (working j (suc n)) p refl refl
-  locked-keep (view.does-end j p) = steps-out idle (working j 0) p refl refl
+    pub locked-keep : {e : Event} → Does c s w e → Locked c ((apply c s w e) .lock) ((apply c s w e) .place)
+    locked-keep d = moved (lock-move d)
 
--- ---- what the promise says of the cells
+-- ---- a place from where its worker stands with the lock
 
-pub waits-at : (p : Place) (t : ℕ) → stand p ≡ H.waiting t → p ≡ looking t
+pub waits-at : (p : Place) (t : ℕ) → lockStand p ≡ H.waiting t → p ≡ looking t
 waits-at idle t e = clash (cc)
-waits-at (notifying a f) t e = clash (cc)
 waits-at trying t e = clash (cc)
 waits-at (registering u) t e = clash (cc)
 waits-at (looking u) t e = cc
 waits-at (draining p k) t e = clash (cc)
 waits-at (serving n) t e = clash (cc)
 waits-at (handing n) t e = clash (cc)
-waits-at (leaving o) t e = clash (cc)
-waits-at (working j n) t e = clash (cc)
-
-pub cell-facts : (c : Setup) (s : State) → Locked c (s .lock) (s .place) → CellFacts c s
-cell-facts c s i =
-    record {
-      fresh = λ w t h p z. omega (arith, Promise.ticket-new i w t (ap stand p));
-      front = λ w n v h p f.
-          let (k, e) = (Promise.front-iff i v) .0 f in
-          (k, waits-at (s .place v) (s .lock .tail) e, λ z. omega (arith, Promise.owning-cells i w (ap stand p) v));
-      received = λ w t j h q. let (a, b, d) = rw q at (Looks.seen (c .slots) (s .lock) t w) in (b, d);
-      owned = λ w t h q. (rw q at (Looks.seen (c .slots) (s .lock) t w)) .1;
-    }
+waits-at leaving t e = clash (cc)

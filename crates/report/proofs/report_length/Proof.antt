@@ -1,7 +1,9 @@
 -- `report::report_length` meets its contract: the lengths of the tasks passed are summed up. The measure is how many are left.
 -- Assumes nothing.
 use Prim.Native.Nat.{_+_, _-_}
+use mathlib.Core.Path.{ap}
 use native.Mathlib.Omega.{arith}
+use Rattle.memory.specs.declared.labels.Label.{Label}
 use Rattle.report.proofs.Loops.{Summed, summed-none, summed-more, length-shown}
 use Rattle.report.proofs.report_length.Statement.{statement}
 use Rattle.report.proofs.report_length.Tie as tie
@@ -22,25 +24,22 @@ add-total : tie.Need-add-total Inv-loop μ-loop
 add-total c = omega arith
 
 loop-holds : tie.Need-loop-holds Inv-loop μ-loop
-loop-holds c = summed-none (c .before .before .before .before .args .tasks .now) (c .before .before .before .before .args .labels .now) (c .before .before .before .before .args .summary .tasks) (c .before .outcome-line-length .result + c .lock-line-length .result) (omega arith)
+loop-holds c =
+    let a = c .before .before .before .before .args in
+    let start = c .before .outcome-line-length .result + c .lock-line-length .result in
+    summed-none (a .tasks .now) (a .labels .now) (a .summary .tasks) start (omega arith)
 
-mul-len : tie.Need-mul-len Inv-loop μ-loop
-mul-len c = omega arith
+label-of-requires : tie.Need-label-of-requires Inv-loop μ-loop
+label-of-requires c κs = (c .before .before .before .before .before .before .pre .1, omega arith)
 
-add-len : tie.Need-add-len Inv-loop μ-loop
-add-len c = omega arith
-
-mul-len-2 : tie.Need-mul-len-2 Inv-loop μ-loop
-mul-len-2 c = omega arith
-
-shared-slice-read-len : tie.Need-shared-slice-read-len Inv-loop μ-loop
-shared-slice-read-len c = omega arith
-
-task-row-requires : tie.Need-task-row-requires Inv-loop μ-loop
-task-row-requires c κs = (c .before .before .before .before .before .before .before .pre .0, omega arith)
+outcome-of-requires : tie.Need-outcome-of-requires Inv-loop μ-loop
+outcome-of-requires c κs = (c .before .before .before .before .before .before .before .pre .0, omega arith)
 
 task-line-length-requires : tie.Need-task-line-length-requires Inv-loop μ-loop
-task-line-length-requires c κs = c .before .before .before .before .before .before .before .before .pre .3 (c .before .before .before .loop .i) (c .before .before .loop-test .taken)
+task-line-length-requires c κs =
+    let s = c .before .before .before .before .before .before .before .before in
+    let turn = c .before .before in
+    omega (arith, ap (λ (l : Label). l .size) (c .before .label-of .ensures), s .pre .3 (turn .before .loop .i) (turn .loop-test .taken))
 
 add-total-2 : tie.Need-add-total-2 Inv-loop μ-loop
 add-total-2 c = omega arith
@@ -52,7 +51,11 @@ loop-less : tie.Need-loop-less Inv-loop μ-loop
 loop-less c = omega arith
 
 loop-again : tie.Need-loop-again Inv-loop μ-loop
-loop-again c = summed-more (c .before .before .before .before .loop .inv) (c .before .before .before .loop-test .taken) (c .before .task-row .ensures) (c .task-line-length .ensures .0) (c .task-line-length .ensures .1)
+loop-again c =
+    let turn = c .before .before .before in
+    let size = c .task-line-length .ensures in
+    summed-more (turn .before .loop .inv) (turn .loop-test .taken) (c .before .before .label-of .ensures) (c .before .outcome-of .ensures)
+    (size .0) (size .1)
 
 returns : tie.Need-returns Inv-loop μ-loop
 returns c = λ setup s text shown. length-shown shown (omega arith) (c .before .loop .inv) (c .loop-test .left)
@@ -67,11 +70,8 @@ report-length-spec =
     lock-line-length-requires
     add-total
     loop-holds
-    mul-len
-    add-len
-    mul-len-2
-    shared-slice-read-len
-    task-row-requires
+    label-of-requires
+    outcome-of-requires
     task-line-length-requires
     add-total-2
     add-i

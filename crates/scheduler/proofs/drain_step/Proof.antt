@@ -1,27 +1,39 @@
 -- `drain_step` meets its contract.
-use borrow.Author.Needs.{needs}
-use Prim.Native.Nat.{_+_, _*_, _<_}
+use Prim.Native.Nat.{ℕ, _+_, _*_, _<_}
 use native.Mathlib.Omega.{arith}
 use mathlib.Core.Path.{_≡_, ap, _∙_}
+use mathlib.Core.List.{List}
 use lib.ListN.{length, getD}
-use Rattle.scheduler.specs.Shares.{share}
-use Rattle.scheduler.proofs.Lending.{share-lent, share-length}
-use Rattle.scheduler.proofs.Pushing.{drained-below, drained-few, drained-room, emptied-at, emptied-long, drain-acts}
-use Rattle.scheduler.proofs.Picking.{share-at, second-lent, both-back}
+use Rattle.steps.specs.Layout.{shareSize, partSize, numberAt, mostWorkers}
+use Rattle.steps.specs.Memory.{share}
+use Rattle.steps.proofs.Parts.{station-long}
+use Rattle.scheduler.proofs.Lending.{station-number, share-length, station-lent, second-lent, both-shares, both-later}
+use Rattle.scheduler.proofs.Draining.{drained-below, drained-known, drained-few, drained-room}
+use Rattle.scheduler.proofs.Draining.{emptied-stations, emptied-long, drain-acts}
+use borrow.Author.Needs.{needs}
 use Rattle.scheduler.proofs.drain_step.Statement.{statement}
 use Rattle.scheduler.proofs.drain_step.Tie as tie
 
 -- the worker whose queue is drained
-queue-is : (s : tie.Start) → getD (share (s .args .store .now) (s .args .w)) 1 0 ≡ getD (s .args .store .now) (s .args .w * 256 + 1) 0
-queue-is s = share-at (s .args .store .now) (s .args .w) 1 (omega arith)
+abbrev drains : tie.Start → ℕ
+drains s = getD (s .args .store .now) (s .args .w * shareSize + partSize + numberAt) 0
 
-below : (s : tie.Start) → getD (s .args .store .now) (s .args .w * 256 + 1) 0 < 32
+drains-is : (s : tie.Start) → getD (share (s .args .store .now) (s .args .w)) (partSize + numberAt) 0 ≡ drains s
+drains-is s = station-number (s .args .store .now) (s .args .w) numberAt (omega arith)
+
+below : (s : tie.Start) → drains s < mostWorkers
 below s =
-    let (wait, registrations, tickets, cells, tasks, accesses, setup, state, long, holds, fit) = s .pre .1 in
-    drained-below holds fit (s .pre .0 .2) (queue-is s)
+    let (m, setup, state, long, holds, fit) = s .pre .1 in
+    drained-below holds fit (s .pre .0 .2) (drains-is s)
 
 mul-at : tie.Need-mul-at
 mul-at c = search needs
+
+add-at : tie.Need-add-at
+add-at c = search needs
+
+mul-end : tie.Need-mul-end
+mul-end c = search needs
 
 add-end : tie.Need-add-end
 add-end c = search needs
@@ -37,6 +49,12 @@ slice-read-k c = search needs
 
 mul-from : tie.Need-mul-from
 mul-from c = omega (arith, below (c .before .before .before), c .before .before .before .pre .0)
+
+add-from : tie.Need-add-from
+add-from c = omega (arith, below (c .before .before .before), c .before .before .before .pre .0)
+
+mul-to : tie.Need-mul-to
+mul-to c = omega (arith, below (c .before .before .before), c .before .before .before .pre .0)
 
 add-to : tie.Need-add-to
 add-to c = omega (arith, below (c .before .before .before), c .before .before .before .pre .0)
@@ -56,12 +74,16 @@ part-drain-end c = omega (arith, below (c .before .before .before), c .before .b
 drain-requires : tie.Need-drain-requires
 drain-requires c κs =
     let s = c .before .before .before .before .before in
-    let (wait, registrations, tickets, cells, tasks, accesses, setup, state, long, holds, fit) = s .pre .1 in
+    let (m, setup, state, long, holds, fit) = s .pre .1 in
     let store = s .args .store .now in
-    let w = s .args .w in
-    let k = getD store (w * 256 + 1) 0 in
-    let lent = share-lent store k (below s) (s .pre .0 .0) in
-    (ap length lent ∙ share-length store k (below s) (s .pre .0 .0), long .ready, holds .ready-at, rw lent (drained-room holds fit (s .pre .0 .2) (queue-is s)), rw lent (drained-few holds fit (s .pre .0 .2) (queue-is s)))
+    let k = drains s in
+    let lent = station-lent store k (below s) (s .pre .0 .0) in (
+      ap length lent ∙ station-long (share store k) (share-length store k (below s) (s .pre .0 .0)),
+      long .ready,
+      holds .device .ready-at,
+      rw lent (drained-room holds fit (s .pre .0 .2) (drains-is s)),
+      rw lent (drained-few holds fit (s .pre .0 .2) (drains-is s)),
+    )
 
 mul-drained : tie.Need-mul-drained
 mul-drained c = search needs
@@ -79,14 +101,16 @@ drained-requires : tie.Need-drained-requires
 drained-requires c κs =
     let d = c .before .before .before .before .before in
     let s = d .before .before .before .before .before .before in
-    let (wait, registrations, tickets, cells, tasks, accesses, setup, state, long, holds, fit) = s .pre .1 in
+    let (m, setup, state, long, holds, fit) = s .pre .1 in
     let store = s .args .store .now in
     let w = s .args .w in
-    let k = getD store (w * 256 + 1) 0 in
+    let k = drains s in
     let one = d .drain .last .0 in
-    let lent = second-lent store k w (below s) (s .pre .0 .1) (s .pre .0 .0) one (d .drain .kept .0) in
-    let emptied = rw (share-lent store k (below s) (s .pre .0 .0)) at (d .drain .ensures .0) in
-    (rw lent (emptied-long holds fit (s .pre .0 .2) (queue-is s) emptied), below s, rw lent (emptied-at holds fit (s .pre .0 .2) (queue-is s) emptied))
+    let emptied = rw (station-lent store k (below s) (s .pre .0 .0)) at (d .drain .ensures .0) in
+    let stations = emptied-stations holds fit (s .pre .0 .2) (drains-is s) emptied in
+    let lent =
+    second-lent store k w (below s) (s .pre .0 .1) (s .pre .0 .0) one (d .drain .kept .0) ∙ ap (λ (f : ℕ → List ℕ). f w) stations in
+    (rw lent (emptied-long holds fit (s .pre .0 .2) (drains-is s) emptied), drained-known holds fit (s .pre .0 .2) (drains-is s))
 
 same-length : tie.Need-same-length
 same-length c = search needs
@@ -101,18 +125,21 @@ returns c =
     let s = d .before .before .before .before .before .before in
     let store = s .args .store .now in
     let w = s .args .w in
-    let k = getD store (w * 256 + 1) 0 in
+    let k = drains s in
     let one = d .drain .last .0 in
     let two = e .drained .last .0 in
     let long = s .pre .0 .0 in
     let few = s .pre .0 .1 in
-    let lent = share-lent store k (below s) long in
-    let lent2 = second-lent store k w (below s) few long one (d .drain .kept .0) in
-    let back = both-back store k w (below s) few long one (d .drain .kept .0) two (e .drained .kept .0) in (
-      λ wait registrations tickets cells tasks accesses setup state size holds fit. rw (back .0)
-          (drain-acts holds fit (s .pre .0 .2) (queue-is s) (rw lent at (d .drain .ensures .0)) two (d .drain .last .1 .0) (d .drain .result) (rw lent at (d .drain .ensures .1))
-          (λ x q ms js. rw lent2 at (e .drained .ensures setup x q ms js (holds .workers)))),
-      back .1,
+    let lent = station-lent store k (below s) long in
+    let emptied = rw lent at (d .drain .ensures .0) in (
+      λ m setup state holds fit.
+          let stations = emptied-stations holds fit (s .pre .0 .2) (drains-is s) emptied in
+          let lent2 = second-lent store k w (below s) few long one (d .drain .kept .0) ∙ ap (λ (f : ℕ → List ℕ). f w) stations in
+          rw (both-shares store k w (below s) few long one (d .drain .kept .0) two (e .drained .kept .0))
+          (drain-acts holds fit (s .pre .0 .2) (drains-is s) emptied two (d .drain .last .1 .0) (d .drain .result)
+          (rw lent at (d .drain .ensures .1))
+          (λ x q. rw lent2 at (e .drained .ensures setup x q (holds .device .workers)))),
+      both-later store k w (below s) few long one (d .drain .kept .0) two (e .drained .kept .0),
     )
 
 pub drain-step-spec : {M : Type 1} → statement M
@@ -120,11 +147,15 @@ drain-step-spec =
     tie.close
     (tie.spec
     mul-at
+    add-at
+    mul-end
     add-end
     add-k
     mul-k
     slice-read-k
     mul-from
+    add-from
+    mul-to
     add-to
     mul-drain
     sub-drain

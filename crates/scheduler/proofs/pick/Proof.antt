@@ -1,14 +1,22 @@
 -- `pick` meets its contract.
-use borrow.Author.Needs.{needs}
+use native.Mathlib.Omega.{arith}
 use mathlib.Core.Path.{sym}
 use mathlib.Core.Logic.{inl, inr, ⊎-elim}
 use Rattle.machine.specs.State.{picked}
-use Rattle.scheduler.specs.Shares.{share}
-use Rattle.scheduler.proofs.Lending.{share-lent}
-use Rattle.scheduler.proofs.Picking.{share-place, returned-shares, returned-later, drains-there, drains-not, counted-long, counted-holds, acted-holds}
-use Rattle.scheduler.proofs.Given.{workers-few}
+use Rattle.steps.specs.Layout.{placeAt}
+use Rattle.steps.specs.Memory.{share, Memory}
+use Rattle.scheduler.specs.Lent.{memory}
+use Rattle.scheduler.proofs.Lending.{station-number, share-lent, returned-shares, returned-later}
+use Rattle.scheduler.proofs.Picking.{workers-few, drains-there, drains-not, counted-long, counted-holds, acted-holds}
+use borrow.Author.Needs.{needs}
 use Rattle.scheduler.proofs.pick.Statement.{statement}
 use Rattle.scheduler.proofs.pick.Tie as tie
+
+-- the memory before the pick
+abbrev given : tie.Start → Memory
+given s =
+    let x = s .args in
+    memory (x .n) (x .wait .now) (x .registrations .now) (x .tickets .now) (x .cells .now) (x .ready .now) (x .rows .now) (x .accesses .now)
 
 add-r : tie.Need-add-r
 add-r c = search needs
@@ -19,6 +27,12 @@ mul-at c = search needs
 add-end : tie.Need-add-end
 add-end c = search needs
 
+add-place : tie.Need-add-place
+add-place c = search needs
+
+add-place-2 : tie.Need-add-place-2
+add-place-2 c = search needs
+
 mul-place : tie.Need-mul-place
 mul-place c = search needs
 
@@ -27,10 +41,13 @@ slice-read-place c = search needs
 
 drain-step-requires : tie.Need-drain-step-requires
 drain-step-requires c κs =
-    let s = c .before .before .before .before .before .before .before .before .before .before .before .before .before .before in
-    let (setup, state, long, holds, fit) = s .pre .1 in (
-      (s .pre .0, workers-few fit _ (fit .worker), rw (share-place (s .args .store .now) (s .args .w)) (drains-there _ (c .before .before .before .if1 .left) (c .before .before .if2 .taken))),
-      (s .args .wait .now, s .args .registrations .now, s .args .tickets .now, s .args .cells .now, s .args .tasks .now, s .args .accesses .now, setup, picked state, counted-long long, counted-holds holds, fit),
+    let here = c .before .before in
+    let s = here .before .before .before .before .before .before .before .before .before .before .before .before in
+    let x = s .args in
+    let (setup, state, long, holds, fit) = s .pre .1 in
+    let drains = drains-there _ (here .before .if1 .left) (here .if2 .taken) in (
+      (s .pre .0, workers-few fit, rw (station-number (x .store .now) (x .w) placeAt (omega arith)) drains),
+      (given s, setup, picked state, counted-long long, counted-holds holds, fit),
     )
 
 mul-step-own : tie.Need-mul-step-own
@@ -47,13 +64,23 @@ part-step-own-end c = search needs
 
 step-own-requires : tie.Need-step-own-requires
 step-own-requires c κs =
-    let s = c .before .before .before .before .before .before .before .before .before .before .before .before .before .before .before .before .before .before .before in
+    let here = c .before .before .before .before .before .before .before .before in
+    let s = here .before .before .before .before .before .before .before .before .before .before .before in
     let (setup, state, long, holds, fit) = s .pre .1 in
     let store = s .args .store .now in
     let w = s .args .w in
-    let lent = share-lent store w (workers-few fit _ (fit .worker)) (s .pre .0) in (
-      record { c = setup; s = picked state; shares = share store; lent = sym lent; long = counted-long long; holds = counted-holds holds; fit = fit },
-      rw (lent, share-place store w) (drains-not _ (⊎-elim (λ t. inl (t .taken)) (λ t. inr (t .1 .left)) (c .before .before .before .before .before .before .before .before .if1 .came))),
+    let lent = share-lent store w (workers-few fit) (s .pre .0) in
+    let no-drain = drains-not _ (⊎-elim (λ t. inl (t .taken)) (λ t. inr (t .1 .left)) (here .if1 .came)) in (
+      record {
+        c = setup;
+        s = picked state;
+        shares = share store;
+        lent = sym lent;
+        long = counted-long long;
+        holds = counted-holds holds;
+        fit = fit;
+      },
+      rw (lent, station-number store w placeAt (omega arith)) no-drain,
     )
 
 same-length : tie.Need-same-length
@@ -64,10 +91,10 @@ same-length-2 c = search needs
 
 returns : tie.Need-returns
 returns c =
-    let s = c .before .before .before .before .before .before .before .before .before .before .before .before .before .before .before .before .before .before .before in
-    let d = c .before .before .before .before .drain-step in
-    let (setup, state, long, holds, fit) = s .pre .1 in
-    (λ k u h f. acted-holds k u (s .args .w) (d .ensures .0 (s .args .wait .now) (s .args .registrations .now) (s .args .tickets .now) (s .args .cells .now) (s .args .tasks .now) (s .args .accesses .now) k (picked u) (counted-long long) (counted-holds h) f), d .ensures .1)
+    let done = c .before .before .before .before in
+    let s = done .before .before .before .before .before .before .before .before .before .before .before .before .before .before .before in
+    let d = done .drain-step in
+    (λ k u h f. acted-holds k u (s .args .w) (d .ensures .0 (given s) k (picked u) (counted-holds h) f), d .ensures .1)
 
 same-length-3 : tie.Need-same-length-3
 same-length-3 c = search needs
@@ -95,15 +122,20 @@ same-length-10 c = search needs
 
 returns-2 : tie.Need-returns-2
 returns-2 c =
-    let d = c .before .before .before .before .before .before .before .before .before .before .before .before .before .before .step-own in
-    let s = c .before .before .before .before .before .before .before .before .before .before .before .before .before .before .before .before .before .before .before .before .before .before .before .before .before .before .before .before .before .before .before .before .before .before in
+    let done = c .before .before .before .before .before .before .before .before .before .before .before .before .before .before in
+    let asked = done .before .before .before .before .before .before .before .before .before .before .before .before in
+    let s = asked .before .before .before .before .before .before .before .before in
+    let d = done .step-own in
     let (setup, state, long, holds, fit) = s .pre .1 in
     let store = s .args .store .now in
     let w = s .args .w in
-    let few = workers-few fit _ (fit .worker) in
+    let few = workers-few fit in
+    let lent = share-lent store w few (s .pre .0) in
     let back = d .kept .1 .1 .1 .1 .1 .1 .1 .1 .0 in
     let own = d .last .1 .1 .1 .1 .1 .1 .1 .1 .0 in (
-      λ k u h f. rw (returned-shares store w few (s .pre .0) own back) (acted-holds k u w (d .ensures k (picked u) (share store) (sym (share-lent store w few (s .pre .0))) (counted-long long) (counted-holds h) f)),
+      λ k u h f.
+          rw (returned-shares store w few (s .pre .0) own back)
+          (acted-holds k u w (d .ensures k (picked u) (share store) (sym lent) (counted-long long) (counted-holds h) f)),
       returned-later store w few (s .pre .0) own back,
     )
 
@@ -114,6 +146,8 @@ pick-spec =
     add-r
     mul-at
     add-end
+    add-place
+    add-place-2
     mul-place
     slice-read-place
     drain-step-requires

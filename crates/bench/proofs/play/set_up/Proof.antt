@@ -1,7 +1,7 @@
 -- `play::set_up` meets its contract.
-use lib.ListN.{length}
 use Rattle.plan.specs.Accepted.{accepted-well-formed}
-use Rattle.bench.proofs.Starting.{held-set-up}
+use Rattle.scheduler.specs.Starting.{starts}
+use Rattle.orders.specs.Reached.{setupOf}
 use borrow.Author.Needs.{needs}
 use Rattle.bench.proofs.play.set_up.Statement.{statement}
 use Rattle.bench.proofs.play.set_up.Tie as tie
@@ -28,21 +28,29 @@ same-length-4 : tie.Need-same-length-4
 same-length-4 c = search needs
 
 same-length-5 : tie.Need-same-length-5
-same-length-5 c = c .before .before .before .before .before .before .before .before .before .before .before .before .before .before .before .before .before .before .before .before .lay-out .kept .1 .0
+same-length-5 c =
+    let starting = c .before .before .before .before .before .before .before .before .before in
+    let laying = starting .before .before .before .before .before .before .before .before .before .before .before in
+    laying .lay-out .kept .1 .0
 
 same-length-6 : tie.Need-same-length-6
-same-length-6 c = c .before .before .before .before .before .before .before .before .before .before .before .before .before .before .before .before .before .before .before .before .lay-out .kept .1 .1 .0
+same-length-6 c =
+    let starting = c .before .before .before .before .before .before .before .before .before in
+    let laying = starting .before .before .before .before .before .before .before .before .before .before .before in
+    laying .lay-out .kept .1 .1 .0
 
 same-length-7 : tie.Need-same-length-7
 same-length-7 c = search needs
 
 returns : tie.Need-returns
-returns c text p list store e says long zeros =
-    let args = c .before .before .before .before .before .before .before .before .before .before .before .before .before .before .before .before .before .before .before .before .before .before .before .before .before .before .before .before .before .before .before .args in
-    let laid = c .before .before .before .before .before .before .before .before .before .before .before .before .before .before .before .before .before .before .before .before .lay-out .ensures text p e says in
-    let started = c .before .before .before .before .before .before .before .before .before .start .ensures in (
-      held-set-up p _ _ _ _ _ _ _ _ (length (args .wait .now)) (length (args .registrations .now)) (length (args .tickets .now)) (length (args .cells .now)) list _ _ store (c .fresh .ensures) (says .workers) (says .count) (started .1 .0) (started .1 .1 .0) (started .1 .1 .1) (started .1 .1 .2)
-          (accepted-well-formed text p e .workers-few) long zeros (started .0) (laid .0) (laid .1),
+returns c text p ready store e says long zeros =
+    let starting = c .before .before .before .before .before .before .before .before .before in
+    let laying = starting .before .before .before .before .before .before .before .before .before .before .before in
+    let started = starting .start .ensures in
+    let laid = laying .lay-out .ensures text p e says in
+    let few = accepted-well-formed text p e .workers-few in (
+      rw (c .fresh .ensures, says .workers, says .count)
+          (starts (setupOf p) few _ _ _ _ _ ready _ _ store long zeros (started .1 .1 .1) (laid .0) (laid .1)),
       laid .2,
     )
 

@@ -1,8 +1,7 @@
 -- `play::summary_of` meets its contract.
 use mathlib.Core.Path.{refl}
 use borrow.Author.Needs.{needs}
-use Rattle.scheduler.specs.Shares.{share}
-use Rattle.scheduler.specs.Memory.{memory}
+use Rattle.steps.specs.Memory.{share, withCounts}
 use Rattle.bench.proofs.play.summary_of.Statement.{statement}
 use Rattle.bench.proofs.play.summary_of.Tie as tie
 
@@ -16,9 +15,9 @@ returns : tie.Need-returns
 returns c =
     let start = c .before .before .before .before .before .args in (
       (refl, refl, refl, refl),
-      λ d s wait registrations tickets cells list tasks accesses h. (
-        c .before .is-finished .ensures d s wait registrations tickets cells list tasks accesses (share (start .store .now)) h,
-        c .find-owner .ensures d (memory (start .n) wait registrations tickets cells list tasks accesses) s h (h .workers),
+      λ m d s h. (
+        c .before .is-finished .ensures m d s (share (start .store .now)) h,
+        c .find-owner .ensures d (withCounts m (start .n)) s h (h .device .workers),
       ),
     )
 

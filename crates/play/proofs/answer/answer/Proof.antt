@@ -1,5 +1,4 @@
 -- `play::answer::answer` meets its contract: by the two answers of a run. Assumes nothing.
-use native.Mathlib.Omega.{arith}
 use Rattle.play.proofs.Prints.{reports, refuses}
 use borrow.Author.Needs.{needs}
 use Rattle.play.proofs.answer.answer.Statement.{statement}
@@ -25,8 +24,10 @@ same-length-2 c = search needs
 
 returns : tie.Need-returns
 returns c =
-    let call = c .before .before .before .before .before .before .before .before .before .before .before .before .before in
-    reports (call .args .store .now) (call .args .output .now) (call .args .text .now) (call .pre .0) (call .pre .1) _ _ _ (c .before .before .before .before .before .before .before .run .ensures) _ _ (c .before .ran .given .1)
+    let running = c .before .before .before .before .before .before .before in
+    let call = running .before .before .before .before .before .before in
+    reports (call .args .store .now) (call .args .output .now) (call .args .text .now) (call .pre .0) (call .pre .1) _ _ _
+    (running .run .ensures) _ _ (c .before .ran .given .1)
 
 same-length-3 : tie.Need-same-length-3
 same-length-3 c = search needs
@@ -36,8 +37,12 @@ same-length-4 c = search needs
 
 returns-2 : tie.Need-returns-2
 returns-2 c =
-    let call = c .before .before .before .before .before .before .before .before .before .before .before .before .before .before .before .before .before in
-    refuses (call .args .store .now) (call .args .output .now) (call .args .text .now) (call .pre .0) (call .pre .1) _ _ _ (c .before .before .before .before .before .before .before .before .before .before .before .run .ensures) _ _ (c .before .before .before .before .before .ran2 .given .1) _ _ (c .before .before .put-refusal .ensures .0) (c .before .before .put-refusal .ensures .1)
+    let putting = c .before .before in
+    let ran = putting .before .before .before in
+    let running = ran .before .before .before .before .before .before in
+    let call = running .before .before .before .before .before .before in
+    refuses (call .args .store .now) (call .args .output .now) (call .args .text .now) (call .pre .0) (call .pre .1) _ _ _
+    (running .run .ensures) _ _ (ran .ran2 .given .1) _ _ (putting .put-refusal .ensures .0) (putting .put-refusal .ensures .1)
 
 pub answer-spec : {M : Type 1} → statement M
 answer-spec =

@@ -27,7 +27,9 @@ add-result-3 c = search needs
 
 returns : tie.Need-returns
 unfolding bytes
-returns c = (omega (arith, length-4 (bytes "L") (decimal (c .before .before .before .args .head)) (decimal (c .before .before .before .args .tail)) (ownerWord (c .before .before .before .args .owner))), omega arith)
+returns c =
+    let a = c .before .before .before .args in
+    (omega (arith, length-4 (bytes "L") (decimal (a .head)) (decimal (a .tail)) (ownerWord (a .owner))), omega arith)
 
 pub lock-line-length-spec : {M : Type 1} → statement M
 lock-line-length-spec =

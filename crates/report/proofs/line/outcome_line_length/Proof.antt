@@ -21,7 +21,9 @@ add-result-2 c = search needs
 
 returns : tie.Need-returns
 unfolding bytes
-returns c = (omega (arith, length-3 (bytes "E") (outcomeWord (c .before .before .args .finished)) (decimal (c .before .before .args .picks))), omega arith)
+returns c =
+    let a = c .before .before .args in
+    (omega (arith, length-3 (bytes "E") (outcomeWord (a .finished)) (decimal (a .picks))), omega arith)
 
 pub outcome-line-length-spec : {M : Type 1} → statement M
 outcome-line-length-spec =

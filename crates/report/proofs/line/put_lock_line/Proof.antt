@@ -14,22 +14,45 @@ put-field-requires c κs = room-field (c .before .before .before .pre)
 
 put-number-requires : tie.Need-put-number-requires
 unfolding bytes
-put-number-requires c κs = room-field (room-left (c .before .before .before .put-field .ensures) (c .before .before .before .before .before .before .before .pre))
+put-number-requires c κs =
+    let letter = c .before .before .before in
+    let room1 = room-left (letter .put-field .ensures) (letter .before .before .before .before .pre) in
+    room-field room1
 
 put-number-requires-2 : tie.Need-put-number-requires-2
 unfolding bytes
-put-number-requires-2 c κs = room-field (room-left (c .before .before .before .put-number .ensures) (room-left (c .before .before .before .before .before .before .before .put-field .ensures) (c .before .before .before .before .before .before .before .before .before .before .before .pre)))
+put-number-requires-2 c κs =
+    let head = c .before .before .before in
+    let letter = head .before .before .before .before in
+    let room1 = room-left (letter .put-field .ensures) (letter .before .before .before .before .pre) in
+    let room2 = room-left (head .put-number .ensures) room1 in
+    room-field room2
 
 put-owner-requires : tie.Need-put-owner-requires
 unfolding bytes
-put-owner-requires c κs = room-last (room-left (c .before .before .before .put-number2 .ensures) (room-left (c .before .before .before .before .before .before .before .put-number .ensures) (room-left (c .before .before .before .before .before .before .before .before .before .before .before .put-field .ensures) (c .before .before .before .before .before .before .before .before .before .before .before .before .before .before .before .pre))))
+put-owner-requires c κs =
+    let tail = c .before .before .before in
+    let head = tail .before .before .before .before in
+    let letter = head .before .before .before .before in
+    let room1 = room-left (letter .put-field .ensures) (letter .before .before .before .before .pre) in
+    let room2 = room-left (head .put-number .ensures) room1 in
+    let room3 = room-left (tail .put-number2 .ensures) room2 in
+    room-last room3
 
 same-length : tie.Need-same-length
 same-length c = search needs
 
 returns : tie.Need-returns
 unfolding bytes
-returns c = wrote-field (c .before .before .before .before .before .before .before .before .before .before .before .before .before .before .put-field .ensures) (wrote-field (c .before .before .before .before .before .before .before .before .before .before .put-number .ensures) (wrote-field (c .before .before .before .before .before .before .put-number2 .ensures) (wrote-last (c .before .before .put-owner .ensures))))
+returns c =
+    let owner = c .before .before in
+    let tail = owner .before .before .before .before in
+    let head = tail .before .before .before .before in
+    let letter = head .before .before .before .before in
+    let wrote4 = wrote-last (owner .put-owner .ensures) in
+    let wrote3 = wrote-field (tail .put-number2 .ensures) wrote4 in
+    let wrote2 = wrote-field (head .put-number .ensures) wrote3 in
+    wrote-field (letter .put-field .ensures) wrote2
 
 pub put-lock-line-spec : {M : Type 1} → statement M
 put-lock-line-spec =

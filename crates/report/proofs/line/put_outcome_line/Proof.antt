@@ -14,18 +14,32 @@ put-field-requires c κs = room-field (c .before .before .before .pre)
 
 put-outcome-requires : tie.Need-put-outcome-requires
 unfolding bytes
-put-outcome-requires c κs = room-field (room-left (c .before .before .before .put-field .ensures) (c .before .before .before .before .before .before .before .pre))
+put-outcome-requires c κs =
+    let letter = c .before .before .before in
+    let room1 = room-left (letter .put-field .ensures) (letter .before .before .before .before .pre) in
+    room-field room1
 
 put-number-requires : tie.Need-put-number-requires
 unfolding bytes
-put-number-requires c κs = room-last (room-left (c .before .before .before .put-outcome .ensures) (room-left (c .before .before .before .before .before .before .before .put-field .ensures) (c .before .before .before .before .before .before .before .before .before .before .before .pre)))
+put-number-requires c κs =
+    let outcome = c .before .before .before in
+    let letter = outcome .before .before .before .before in
+    let room1 = room-left (letter .put-field .ensures) (letter .before .before .before .before .pre) in
+    let room2 = room-left (outcome .put-outcome .ensures) room1 in
+    room-last room2
 
 same-length : tie.Need-same-length
 same-length c = search needs
 
 returns : tie.Need-returns
 unfolding bytes
-returns c = wrote-field (c .before .before .before .before .before .before .before .before .before .before .put-field .ensures) (wrote-field (c .before .before .before .before .before .before .put-outcome .ensures) (wrote-last (c .before .before .put-number .ensures)))
+returns c =
+    let picks = c .before .before in
+    let outcome = picks .before .before .before .before in
+    let letter = outcome .before .before .before .before in
+    let wrote3 = wrote-last (picks .put-number .ensures) in
+    let wrote2 = wrote-field (outcome .put-outcome .ensures) wrote3 in
+    wrote-field (letter .put-field .ensures) wrote2
 
 pub put-outcome-line-spec : {M : Type 1} → statement M
 put-outcome-line-spec =

@@ -2,6 +2,7 @@
 use native.Mathlib.Omega.{arith}
 use lib.Dec.{leb}
 use Rattle.plan.specs.Text.{bytes, decimal}
+use Rattle.memory.specs.Layout as layout
 use Rattle.report.specs.Printed.{statusWord, numberIf}
 use Rattle.report.specs.Lines.{length-7}
 use borrow.Author.Needs.{needs}
@@ -43,7 +44,17 @@ add-result-4 c = search needs
 
 returns : tie.Need-returns
 unfolding bytes
-returns c = (λ label e. omega (arith, length-7 (bytes "T") (decimal (c .before .before .before .before .before .before .before .args .i)) label (statusWord (c .before .before .before .before .before .before .before .args .row .status)) (numberIf (leb 4 (c .before .before .before .before .before .before .before .args .row .status)) (c .before .before .before .before .before .before .before .args .row .runner)) (numberIf (leb 4 (c .before .before .before .before .before .before .before .args .row .status)) (c .before .before .before .before .before .before .before .args .row .receipt)) (numberIf (leb 5 (c .before .before .before .before .before .before .before .args .row .status)) (c .before .before .before .before .before .before .before .args .row .ending))), omega arith)
+returns c =
+    let a = c .before .before .before .before .before .before .before .args in
+    let begun = leb layout.running (a .task .status) in
+    let over = leb layout.over (a .task .status) in (
+      λ label e. omega (
+        arith,
+        length-7 (bytes "T") (decimal (a .i)) label (statusWord (a .task .status))
+            (numberIf begun (a .task .runner)) (numberIf begun (a .task .receipt)) (numberIf over (a .task .ending)),
+      ),
+      omega arith,
+    )
 
 pub task-line-length-spec : {M : Type 1} → statement M
 task-line-length-spec =

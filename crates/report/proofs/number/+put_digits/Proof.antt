@@ -26,32 +26,67 @@ abbrev put-digits-below : ℕ → In 1 put-digits-kinds.ps
 put-digits-below t =
     and 1 put-digits-kinds.ps (falls 1 put-digits-kinds.ps _<_ μ-put-digits t) put-digits.Pre
 
-put-digits-add-last : (t : ℕ) → put-digits-lts.Need-add-last (put-byte-reads.Asked, put-byte-reads.Learnt, put-digits-below t, put-digits.Post) (put-digits-at t) put-digits.Post
+put-digits-add-last : (t : ℕ)
+    → put-digits-lts.Need-add-last (put-byte-reads.Asked, put-byte-reads.Learnt, put-digits-below t, put-digits.Post)
+    (put-digits-at t) put-digits.Post
 put-digits-add-last t c = omega (arith, mod-lt (c .before .args .n) {m = 10} (omega arith))
 
-put-digits-cast-last : (t : ℕ) → put-digits-lts.Need-cast-last (put-byte-reads.Asked, put-byte-reads.Learnt, put-digits-below t, put-digits.Post) (put-digits-at t) put-digits.Post
+put-digits-cast-last : (t : ℕ)
+    → put-digits-lts.Need-cast-last (put-byte-reads.Asked, put-byte-reads.Learnt, put-digits-below t, put-digits.Post)
+    (put-digits-at t) put-digits.Post
 put-digits-cast-last t c = omega (arith, mod-lt (c .before .args .n) {m = 10} (omega arith))
 
-put-digits-put-byte-requires : (t : ℕ) → put-digits-lts.Need-put-byte-requires (put-byte-reads.Asked, put-byte-reads.Learnt, put-digits-below t, put-digits.Post) (put-digits-at t) put-digits.Post
-put-digits-put-byte-requires t c κs = record { fits = omega (arith, decimal-some (c .before .before .before .args .n), c .before .before .before .pre .1) }
+put-digits-put-byte-requires : (t : ℕ)
+    → put-digits-lts.Need-put-byte-requires (put-byte-reads.Asked, put-byte-reads.Learnt, put-digits-below t, put-digits.Post)
+    (put-digits-at t) put-digits.Post
+put-digits-put-byte-requires t c κs =
+    let s = c .before .before .before in
+    record { fits = omega (arith, decimal-some (s .args .n), s .pre .1) }
 
-put-digits-same-length : (t : ℕ) → put-digits-lts.Need-same-length (put-byte-reads.Asked, put-byte-reads.Learnt, put-digits-below t, put-digits.Post) (put-digits-at t) put-digits.Post
+put-digits-same-length : (t : ℕ)
+    → put-digits-lts.Need-same-length (put-byte-reads.Asked, put-byte-reads.Learnt, put-digits-below t, put-digits.Post)
+    (put-digits-at t) put-digits.Post
 put-digits-same-length t c = wrote-length (c .before .before .put-byte .ensures)
 
-put-digits-returns : (t : ℕ) → put-digits-lts.Need-returns (put-byte-reads.Asked, put-byte-reads.Learnt, put-digits-below t, put-digits.Post) (put-digits-at t) put-digits.Post
-put-digits-returns t c = wrote-as (decimal-last (c .before .before .before .before .before .before .args .n) (omega arith)) (c .before .before .put-byte .ensures)
+put-digits-returns : (t : ℕ)
+    → put-digits-lts.Need-returns (put-byte-reads.Asked, put-byte-reads.Learnt, put-digits-below t, put-digits.Post)
+    (put-digits-at t) put-digits.Post
+put-digits-returns t c =
+    let n = c .before .before .before .before .before .before .args .n in
+    wrote-as (decimal-last n (omega arith)) (c .before .before .put-byte .ensures)
 
-put-digits-put-digits-requires : (t : ℕ) → put-digits-lts.Need-put-digits-requires (put-byte-reads.Asked, put-byte-reads.Learnt, put-digits-below t, put-digits.Post) (put-digits-at t) put-digits.Post
-put-digits-put-digits-requires t c κs = (omega (arith, tens-less (c .before .before .before .args .n) (omega arith), c .before .before .before .pre .0), room-first ((48 + c .before .before .before .args .n % 10) ∷ []) (decimal-more (c .before .before .before .args .n) (omega arith)) (c .before .before .before .pre .1))
+put-digits-put-digits-requires : (t : ℕ)
+    → put-digits-lts.Need-put-digits-requires (put-byte-reads.Asked, put-byte-reads.Learnt, put-digits-below t, put-digits.Post)
+    (put-digits-at t) put-digits.Post
+put-digits-put-digits-requires t c κs =
+    let s = c .before .before .before in
+    let n = s .args .n in (
+      omega (arith, tens-less n (omega arith), s .pre .0),
+      room-first ((48 + n % 10) ∷ []) (decimal-more n (omega arith)) (s .pre .1),
+    )
 
-put-digits-put-byte-requires-2 : (t : ℕ) → put-digits-lts.Need-put-byte-requires-2 (put-byte-reads.Asked, put-byte-reads.Learnt, put-digits-below t, put-digits.Post) (put-digits-at t) put-digits.Post
-put-digits-put-byte-requires-2 t c κs = room-rest (c .before .before .before .put-digits .ensures) (decimal-more (c .before .before .before .before .before .before .before .args .n) (omega arith)) (c .before .before .before .before .before .before .before .pre .1)
+put-digits-put-byte-requires-2 : (t : ℕ)
+    → put-digits-lts.Need-put-byte-requires-2 (put-byte-reads.Asked, put-byte-reads.Learnt, put-digits-below t, put-digits.Post)
+    (put-digits-at t) put-digits.Post
+put-digits-put-byte-requires-2 t c κs =
+    let digits = c .before .before .before in
+    let s = digits .before .before .before .before in
+    room-rest (digits .put-digits .ensures) (decimal-more (s .args .n) (omega arith)) (s .pre .1)
 
-put-digits-same-length-2 : (t : ℕ) → put-digits-lts.Need-same-length-2 (put-byte-reads.Asked, put-byte-reads.Learnt, put-digits-below t, put-digits.Post) (put-digits-at t) put-digits.Post
-put-digits-same-length-2 t c = wrote-length (c .before .before .put-byte2 .ensures) ∙ wrote-length (c .before .before .before .before .before .before .put-digits .ensures)
+put-digits-same-length-2 : (t : ℕ)
+    → put-digits-lts.Need-same-length-2 (put-byte-reads.Asked, put-byte-reads.Learnt, put-digits-below t, put-digits.Post)
+    (put-digits-at t) put-digits.Post
+put-digits-same-length-2 t c =
+    wrote-length (c .before .before .put-byte2 .ensures)
+    ∙ wrote-length (c .before .before .before .before .before .before .put-digits .ensures)
 
-put-digits-returns-2 : (t : ℕ) → put-digits-lts.Need-returns-2 (put-byte-reads.Asked, put-byte-reads.Learnt, put-digits-below t, put-digits.Post) (put-digits-at t) put-digits.Post
-put-digits-returns-2 t c = wrote-then (c .before .before .before .before .before .before .put-digits .ensures) (decimal-more (c .before .before .before .before .before .before .before .before .before .before .args .n) (omega arith)) (c .before .before .put-byte2 .ensures)
+put-digits-returns-2 : (t : ℕ)
+    → put-digits-lts.Need-returns-2 (put-byte-reads.Asked, put-byte-reads.Learnt, put-digits-below t, put-digits.Post)
+    (put-digits-at t) put-digits.Post
+put-digits-returns-2 t c =
+    let digits = c .before .before .before .before .before .before in
+    let n = digits .before .before .before .before .args .n in
+    wrote-then (digits .put-digits .ensures) (decimal-more n (omega arith)) (c .before .before .put-byte2 .ensures)
 
 pub +put-digits-spec : {M : Type 1} → statement M
 +put-digits-spec = close μ-put-digits λ t. put-digits-lts.spec (

@@ -11,7 +11,9 @@ digits-requires : tie.Need-digits-requires
 digits-requires c κs = search needs
 
 returns : tie.Need-returns
-returns c = (c .digits .ensures .0 ∙ sym (ap length (number-known (c .before .before .args .known) (c .before .before .args .n) (c .before .if1 .taken))), c .digits .ensures .1)
+returns c =
+    let a = c .before .before .args in
+    (c .digits .ensures .0 ∙ sym (ap length (number-known (a .known) (a .n) (c .before .if1 .taken))), c .digits .ensures .1)
 
 returns-2 : tie.Need-returns-2
 returns-2 c = (sym (ap length (number-unknown (c .before .args .known) (c .before .args .n) (c .if1 .left))), omega arith)

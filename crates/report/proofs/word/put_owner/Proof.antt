@@ -35,7 +35,9 @@ same-length-2 c = search needs
 
 returns-2 : tie.Need-returns-2
 unfolding bytes ownerWord
-returns-2 c = wrote-same (owner-some (c .before .before .before .before .before .before .args .owner) (omega arith)) (c .before .before .put-number .ensures)
+returns-2 c =
+    wrote-same (owner-some (c .before .before .before .before .before .before .args .owner) (omega arith))
+    (c .before .before .put-number .ensures)
 
 pub put-owner-spec : {M : Type 1} → statement M
 put-owner-spec =

@@ -1,6 +1,5 @@
 -- `report::word::put_status` meets its contract. Assumes nothing.
 use mathlib.Core.Path.{ap}
-use native.Mathlib.Omega.{arith}
 use Rattle.plan.specs.Text.{bytes}
 use Rattle.report.specs.Printed.{statusWord}
 use Rattle.report.proofs.Words.{status-over}
@@ -49,7 +48,10 @@ slice-aggregate-put-field-6 c = search needs
 
 put-field-requires-6 : tie.Need-put-field-requires-6
 unfolding bytes statusWord
-put-field-requires-6 c κs = room-same (status-over (c .before .before .before .before .args .status) (omega (arith, c .before .before .match .rest .0 .0 .0 .0 .1, c .before .before .match .rest .0 .0 .0 .1, c .before .before .match .rest .0 .0 .1, c .before .before .match .rest .0 .1, c .before .before .match .rest .1))) (c .before .before .before .before .pre)
+put-field-requires-6 c κs =
+    let s = c .before .before .before .before in
+    let rest = c .before .before .match .rest in
+    room-same (status-over (s .args .status) (rest .0 .0 .0 .0 .1) (rest .0 .0 .0 .1) (rest .0 .0 .1) (rest .0 .1) (rest .1)) (s .pre)
 
 same-length : tie.Need-same-length
 same-length c = search needs
@@ -91,7 +93,11 @@ same-length-6 c = search needs
 
 returns-6 : tie.Need-returns-6
 unfolding bytes statusWord
-returns-6 c = wrote-same (status-over (c .before .before .before .before .before .before .before .args .status) (omega (arith, c .before .before .before .before .before .match .rest .0 .0 .0 .0 .1, c .before .before .before .before .before .match .rest .0 .0 .0 .1, c .before .before .before .before .before .match .rest .0 .0 .1, c .before .before .before .before .before .match .rest .0 .1, c .before .before .before .before .before .match .rest .1))) (c .before .before .put-field6 .ensures)
+returns-6 c =
+    let s = c .before .before .before .before .before .before .before in
+    let rest = c .before .before .before .before .before .match .rest in
+    wrote-same (status-over (s .args .status) (rest .0 .0 .0 .0 .1) (rest .0 .0 .0 .1) (rest .0 .0 .1) (rest .0 .1) (rest .1))
+    (c .before .before .put-field6 .ensures)
 
 pub put-status-spec : {M : Type 1} → statement M
 put-status-spec =

@@ -30,7 +30,10 @@ returns-5 c = (sym (ap (λ n. length (statusWord n)) (c .match .keys5)), omega a
 
 returns-6 : tie.Need-returns-6
 unfolding bytes statusWord
-returns-6 c = (sym (ap length (status-over (c .before .args .status) (omega (arith, c .match .rest .0 .0 .0 .0 .1, c .match .rest .0 .0 .0 .1, c .match .rest .0 .0 .1, c .match .rest .0 .1, c .match .rest .1)))), omega arith)
+returns-6 c =
+    let rest = c .match .rest in
+    let word = status-over (c .before .args .status) (rest .0 .0 .0 .0 .1) (rest .0 .0 .0 .1) (rest .0 .0 .1) (rest .0 .1) (rest .1) in
+    (sym (ap length word), omega arith)
 
 pub status-length-spec : {M : Type 1} → statement M
 status-length-spec = tie.close (tie.spec returns returns-2 returns-3 returns-4 returns-5 returns-6)

@@ -45,4 +45,5 @@ returns c =
 
 pub put-bytes-spec : {M : Type 1} → statement M
 put-bytes-spec =
-    tie.close (tie.spec Inv-loop μ-loop loop-holds shared-slice-read-out slice-write-out add-next add-i loop-less loop-again same-length returns)
+    tie.close
+    (tie.spec Inv-loop μ-loop loop-holds shared-slice-read-out slice-write-out add-next add-i loop-less loop-again same-length returns)

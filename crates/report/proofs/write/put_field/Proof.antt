@@ -10,13 +10,15 @@ put-bytes-requires : tie.Need-put-bytes-requires
 put-bytes-requires c κs = room-first (c .before .before .before .args .end ∷ []) refl (c .before .before .before .pre)
 
 put-byte-requires : tie.Need-put-byte-requires
-put-byte-requires c κs = room-rest (c .before .before .before .put-bytes .ensures) refl (c .before .before .before .before .before .before .before .pre)
+put-byte-requires c κs =
+    room-rest (c .before .before .before .put-bytes .ensures) refl (c .before .before .before .before .before .before .before .pre)
 
 same-length : tie.Need-same-length
 same-length c = search needs
 
 returns : tie.Need-returns
-returns c = wrote-then (c .before .before .before .before .before .before .put-bytes .ensures) refl (c .before .before .put-byte .ensures)
+returns c =
+    wrote-then (c .before .before .before .before .before .before .put-bytes .ensures) refl (c .before .before .put-byte .ensures)
 
 pub put-field-spec : {M : Type 1} → statement M
 put-field-spec = tie.close (tie.spec put-bytes-requires put-byte-requires same-length returns)

@@ -7,7 +7,8 @@ use mathlib.Core.Path.{_≡_, sym, _∙_}
 use mathlib.Core.List.{List}
 use lib.ListN.{length}
 use Rattle.plan.specs.Plan.{Task}
-use Rattle.machine.specs.Safety.LinkLaws.{total as Total}
+use Rattle.tasks.specs.Accesses.{total as Total}
+use Rattle.memory.specs.Layout as layout
 use Rattle.tables.specs.Laid.{Laid, AreAccesses}
 use Rattle.tables.proofs.Plans.{one-access}
 use Rattle.tables.proofs.access.lay_accesses.Statement.{statement}
@@ -15,7 +16,8 @@ use Rattle.tables.proofs.access.lay_accesses.Tie as tie
 
 abbrev Inv-loop : tie.InvT-loop
 Inv-loop accesses₀ n task at total touches k₀ accesses k =
-    (k ≤ n) × (length accesses ≡ 4096) × ((ts : List Task) → Total ts ≡ total → AreAccesses ts task at n touches → Laid ts at accesses₀ → Laid ts (at + k) accesses)
+    (k ≤ n) × (length accesses ≡ layout.accessRows)
+    × ((ts : List Task) → Total ts ≡ total → AreAccesses ts task at n touches → Laid ts at accesses₀ → Laid ts (at + k) accesses)
 
 abbrev μ-loop : tie.MeasureT-loop
 μ-loop accesses₀ n task at total touches k₀ accesses k = n - k
@@ -29,14 +31,14 @@ mul-touch c = omega arith
 array-copy-out-touch : tie.Need-array-copy-out-touch Inv-loop μ-loop
 array-copy-out-touch c = omega arith
 
-add-lay-access : tie.Need-add-lay-access Inv-loop μ-loop
-add-lay-access c = omega arith
+add-chain-access : tie.Need-add-chain-access Inv-loop μ-loop
+add-chain-access c = omega arith
 
 reads-of-requires : tie.Need-reads-of-requires Inv-loop μ-loop
 reads-of-requires c κs = search needs
 
-lay-access-requires : tie.Need-lay-access-requires Inv-loop μ-loop
-lay-access-requires c κs = omega arith
+chain-access-requires : tie.Need-chain-access-requires Inv-loop μ-loop
+chain-access-requires c κs = omega arith
 
 add-k : tie.Need-add-k Inv-loop μ-loop
 add-k c = omega arith
@@ -46,19 +48,27 @@ loop-less c = omega arith
 
 loop-again : tie.Need-loop-again Inv-loop μ-loop
 loop-again c =
-    let a = c .before .before .before .before .before .before .before .before .before .args in
-    let x = c .before .before .before .before .before .before .before .loop in
+    let turn = c .before .before .before .before .before .before in
+    let a = turn .before .before .before .args in
+    let x = turn .before .loop in
+    let chained = c .before .before .chain-access in
+    let reads = c .before .before .before .reads-of in
     let more : a .at + (x .k + 1) ≡ suc (a .at + x .k) = omega arith in (
       omega arith,
-      c .before .before .lay-access .kept .0 ∙ x .inv .1,
-      λ ts e h l. rw more (c .before .before .lay-access .ensures ts e (rw (c .before .before .before .reads-of .ensures) (one-access ts (a .task) (a .at) (a .n) (x .k) (a .t2) h (c .before .before .before .before .before .before .loop-test .taken))) (x .inv .2 ts e h l)),
+      chained .kept .0 ∙ x .inv .1,
+      λ ts e h l.
+          let access = one-access ts (a .task) (a .at) (a .n) (x .k) (a .t2) h (turn .loop-test .taken) in
+          rw more (chained .ensures ts e (rw (reads .ensures) access) (x .inv .2 ts e h l)),
     )
 
 same-length : tie.Need-same-length Inv-loop μ-loop
 same-length c = c .before .loop .inv .1 ∙ sym (c .before .before .before .pre .0)
 
 returns : tie.Need-returns Inv-loop μ-loop
-returns c = λ ts e h l. let all : c .before .loop .k ≡ c .before .before .before .args .n = omega arith in rw all at (c .before .loop .inv .2 ts e h l)
+returns c =
+    let x = c .before .loop in
+    let all : x .k ≡ c .before .before .before .args .n = omega arith in
+    λ ts e h l. rw all at (x .inv .2 ts e h l)
 
 pub lay-accesses-spec : {M : Type 1} → statement M
 lay-accesses-spec =
@@ -69,9 +79,9 @@ lay-accesses-spec =
     loop-holds
     mul-touch
     array-copy-out-touch
-    add-lay-access
+    add-chain-access
     reads-of-requires
-    lay-access-requires
+    chain-access-requires
     add-k
     loop-less
     loop-again

@@ -1,13 +1,13 @@
 -- `tables::access::previous` meets its contract: the last access to the address below i is the last below a.
 -- Assumes nothing.
-use borrow.Author.Tests.{eq-eqb, ne-eqb}
-use Rattle.tables.proofs.Searches.{search-found, search-on, search-none}
 use borrow.Author.Needs.{needs}
 use native.Mathlib.Omega.{arith}
 use Prim.Native.Nat.{_≤_}
-use mathlib.Core.Path.{_≡_, refl, sym}
-use Rattle.machine.specs.Accesses.{lastBelow}
+use mathlib.Core.Path.{_≡_, refl, sym, _∙_}
+use borrow.Author.Tests.{eq-eqb, ne-eqb}
+use Rattle.runs.specs.Searches.{lastBelow}
 use Rattle.tables.specs.Laid.{atAddress}
+use Rattle.tables.proofs.Searches.{search-found, search-on, search-none}
 use Rattle.tables.proofs.access.previous.Statement.{statement}
 use Rattle.tables.proofs.access.previous.Tie as tie
 
@@ -23,29 +23,32 @@ loop-holds c = (search needs, refl)
 sub-b : tie.Need-sub-b Inv-loop μ-loop
 sub-b c = search needs
 
-mul-if1 : tie.Need-mul-if1 Inv-loop μ-loop
-mul-if1 c = search needs
-
-add-if1 : tie.Need-add-if1 Inv-loop μ-loop
-add-if1 c = search needs
-
-mul-if1-2 : tie.Need-mul-if1-2 Inv-loop μ-loop
-mul-if1-2 c = search needs
-
-shared-slice-read-if1 : tie.Need-shared-slice-read-if1 Inv-loop μ-loop
-shared-slice-read-if1 c = omega arith
+address-requires : tie.Need-address-requires Inv-loop μ-loop
+address-requires c κs = omega arith
 
 returns : tie.Need-returns Inv-loop μ-loop
-returns c = search-found (atAddress (c .before .before .before .before .args .accesses .now) (c .before .before .before .before .args .address)) (c .before .before .before .before .args .a) (c .before .before .before .loop .i) (search needs) (eq-eqb _ _ (sym (c .if1 .taken))) (c .before .before .before .loop .inv .1)
+returns c =
+    let s = c .before .before .before .before .before .args in
+    let x = c .before .before .before .loop in
+    search-found (atAddress (s .accesses .now) (s .address)) (s .a) (x .i) (search needs)
+    (eq-eqb _ _ (sym (c .if1 .taken) ∙ c .before .address .ensures)) (x .inv .1)
 
 loop-less : tie.Need-loop-less Inv-loop μ-loop
 loop-less c = search needs
 
 loop-again : tie.Need-loop-again Inv-loop μ-loop
-loop-again c = (search needs, search-on (atAddress (c .before .before .before .before .args .accesses .now) (c .before .before .before .before .args .address)) (c .before .before .before .before .args .a) (c .before .before .before .loop .i) (search needs) (ne-eqb _ _ (λ e. c .if1 .left (sym e))) (c .before .before .before .loop .inv .1))
+loop-again c =
+    let s = c .before .before .before .before .before .args in
+    let x = c .before .before .before .loop in (
+      search needs,
+      search-on (atAddress (s .accesses .now) (s .address)) (s .a) (x .i) (search needs)
+          (ne-eqb _ _ (λ e. c .if1 .left (c .before .address .ensures ∙ sym e))) (x .inv .1),
+    )
 
 returns-2 : tie.Need-returns-2 Inv-loop μ-loop
-returns-2 c = search-none (atAddress (c .before .before .args .accesses .now) (c .before .before .args .address)) (c .before .before .args .a) (c .before .loop .i) (c .loop-test .left) (c .before .loop .inv .1)
+returns-2 c =
+    let s = c .before .before .before .args in
+    search-none (atAddress (s .accesses .now) (s .address)) (s .a) (c .before .loop .i) (c .loop-test .left) (c .before .loop .inv .1)
 
 pub previous-spec : {M : Type 1} → statement M
 previous-spec =
@@ -55,10 +58,7 @@ previous-spec =
     μ-loop
     loop-holds
     sub-b
-    mul-if1
-    add-if1
-    mul-if1-2
-    shared-slice-read-if1
+    address-requires
     returns
     loop-less
     loop-again

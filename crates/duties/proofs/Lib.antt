@@ -1,0 +1,10 @@
+pub mod Flagging
+pub mod Held
+pub mod Given
+pub mod Delivering
+pub mod Telling
+pub mod Dealing
+pub mod Delivery
+pub mod DeliverySteps
+pub mod Working
+pub mod Creating

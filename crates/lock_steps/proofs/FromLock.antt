@@ -1,0 +1,138 @@
+-- What the lock's functions promise, as operations on the lock of the state.
+use Prim.Native.Nat.{ℕ, _+_, _%_, _^_, _<_}
+use native.Mathlib.Omega.{arith}
+use mathlib.Core.Path.{_≡_, sym, ap, _∙_}
+use mathlib.Core.Bool.{Bool}
+use mathlib.Core.List.{List}
+use lib.ListN.{set}
+use Rattle.lock.specs.Lock as L
+use Rattle.lock.specs.History as LH
+use Rattle.lock.specs.Promise as Promise
+use Rattle.lock.specs.Arrays.{lockOf}
+use Rattle.lock.specs.Answers.{seen, waiter}
+use Rattle.lock.specs.declared.Ends.{Ends}
+use Rattle.lock.specs.declared.Taken.{Taken}
+use Rattle.lock.specs.declared.Looked.{Looked}
+use Rattle.lock.specs.declared.Front.{Front}
+use Rattle.steps.specs.Layout.{SLOTS}
+use Rattle.steps.specs.Memory.{Memory, Able}
+
+-- the lock with these ends
+abbrev lockAt : ℕ → Ends → (wait registrations tickets cells : List ℕ) → L.Lock
+lockAt N ends wait registrations tickets cells = lockOf N (ends .head .0) (ends .tail .0) wait registrations tickets cells
+
+-- what each function ensures
+abbrev pub Took : Ends → Taken → Type 0
+Took ends r =
+    ((r .ticket .0 ≡ ends .head .0) × (r .ends .head .0 ≡ ends .head .0 + 1) × (r .ends .tail .0 ≡ ends .tail .0))
+    × ((slots : ℕ) (wait registrations tickets cells : List ℕ)
+    → lockAt slots (r .ends) wait registrations tickets cells ≡ L.takeTicket (lockAt slots ends wait registrations tickets cells))
+
+abbrev pub Registered : (ticket worker : ℕ) → (before after : List ℕ) → Type 0
+Registered ticket worker before after =
+    (after ≡ set before (ticket % SLOTS) (L.join ticket worker))
+    × ((head tail : ℕ) (wait tickets cells : List ℕ)
+    → lockOf SLOTS head tail wait after tickets cells ≡ L.register SLOTS (lockOf SLOTS head tail wait before tickets cells) ticket worker)
+
+abbrev pub HandedOver : (ends next : Ends) → (before after : List ℕ) → Type 0
+HandedOver ends next before after =
+    ((next .head .0 ≡ ends .head .0) × (next .tail .0 ≡ ends .tail .0 + 1))
+    × ((after ≡ set before (ends .tail .0 % SLOTS) (ends .tail .0))
+    × ((registrations tickets cells : List ℕ)
+    → lockAt SLOTS next after registrations tickets cells ≡ L.handOver SLOTS (lockAt SLOTS ends before registrations tickets cells)))
+
+abbrev pub Filled : Ends → (worker task : ℕ) → (tickets stamped cells filled : List ℕ) → Type 0
+Filled ends worker task tickets stamped cells filled =
+    (stamped ≡ set tickets worker (ends .tail .0))
+    × ((filled ≡ set cells worker task)
+    × ((slots : ℕ) (wait registrations : List ℕ)
+    → lockAt slots ends wait registrations stamped filled ≡ L.fill (lockAt slots ends wait registrations tickets cells) worker task))
+
+abbrev pub Sees : (wait tickets cells : List ℕ) → (ticket worker : ℕ) → Looked → Type 0
+Sees wait tickets cells ticket worker r =
+    (head tail : ℕ) (registrations : List ℕ) → seen r ≡ L.look SLOTS (lockOf SLOTS head tail wait registrations tickets cells) ticket worker
+
+abbrev pub Fronts : Ends → List ℕ → Front → Type 0
+Fronts ends registrations r =
+    (wait tickets cells : List ℕ) → waiter r ≡ L.front SLOTS (lockOf SLOTS (ends .head .0) (ends .tail .0) wait registrations tickets cells)
+
+abbrev pub Frees : Ends → Bool → Type 0
+Frees ends r =
+    (slots : ℕ) (wait registrations tickets cells : List ℕ)
+    → r ≡ L.isFree (lockOf slots (ends .head .0) (ends .tail .0) wait registrations tickets cells)
+
+module _ {m : Memory} {own : List ℕ} {w : ℕ} (a : Able m own w) where
+  -- ---- its numbers
+
+  head-is : m .counts .ends .head .0 ≡ a .s .lock .head
+  head-is = ap (λ (l : L.Lock). l .head) (a .holds .lock)
+
+  pub head-fits : m .counts .ends .head .0 + 1 < 2 ^ 64
+  head-fits = omega (arith, a .fit .head, head-is)
+
+  pub tail-fits : m .counts .ends .tail .0 + 1 < 2 ^ 64
+  tail-fits = omega (arith, a .fit .tail, ap (λ (l : L.Lock). l .tail) (a .holds .lock))
+
+  pub ticket-is : {r : Taken} → Took (m .counts .ends) r → r .ticket .0 ≡ a .s .lock .head
+  ticket-is k = k .0 .0 ∙ head-is
+
+  -- ---- answers
+
+  pub sees : (t : ℕ) {r x : Looked} → Sees (m .wait) (m .tickets) (m .cells) t w r → r ≡ x → L.look (a .c .slots) (a .s .lock) t w ≡ seen x
+  sees t says e =
+      rw (← a .holds .lock, a .fit .sized .slots, ← e) (sym (says (m .counts .ends .head .0) (m .counts .ends .tail .0) (m .registrations)))
+
+  pub fronts : {r x : Front} → Fronts (m .counts .ends) (m .registrations) r → r ≡ x → L.front (a .c .slots) (a .s .lock) ≡ waiter x
+  fronts says e = rw (← a .holds .lock, a .fit .sized .slots, ← e) (sym (says (m .wait) (m .tickets) (m .cells)))
+
+  pub frees : {r x : Bool} → Frees (m .counts .ends) r → r ≡ x → L.isFree (a .s .lock) ≡ x
+  frees says e = rw (← a .holds .lock, ← e) (sym (says (a .c .slots) (m .wait) (m .registrations) (m .tickets) (m .cells)))
+
+  -- ---- operations
+
+  -- the lock in memory with other ends and arrays
+  abbrev pub lockWith : Ends → (wait registrations tickets cells : List ℕ) → L.Lock
+  lockWith ends wait registrations tickets cells = lockAt (a .c .slots) ends wait registrations tickets cells
+
+  abbrev after : LH.Op → L.Lock
+  after op = LH.after (a .c .slots) (a .s .lock) w op
+
+  pub after-take : {r : Taken} → Took (m .counts .ends) r
+      → lockWith (r .ends) (m .wait) (m .registrations) (m .tickets) (m .cells) ≡ after LH.take
+  after-take k =
+      rw (Promise.after-take (a .c .slots) (a .s .lock) w, ← a .holds .lock)
+      (k .1 (a .c .slots) (m .wait) (m .registrations) (m .tickets) (m .cells))
+
+  pub after-try : {r : Taken} → Took (m .counts .ends) r
+      → lockWith (r .ends) (m .wait) (m .registrations) (m .tickets) (m .cells) ≡ after LH.try
+  after-try k =
+      rw (Promise.after-try (a .c .slots) (a .s .lock) w, ← a .holds .lock)
+      (k .1 (a .c .slots) (m .wait) (m .registrations) (m .tickets) (m .cells))
+
+  pub after-register : (t : ℕ) {written : List ℕ} → Registered t w (m .registrations) written
+      → lockWith (m .counts .ends) (m .wait) written (m .tickets) (m .cells) ≡ after (LH.register t)
+  after-register t k =
+      rw (Promise.after-register (a .c .slots) (a .s .lock) w t, ← a .holds .lock, a .fit .sized .slots)
+      (k .1 (m .counts .ends .head .0) (m .counts .ends .tail .0) (m .wait) (m .tickets) (m .cells))
+
+  pub after-own : (t : ℕ) → lockWith (m .counts .ends) (m .wait) (m .registrations) (m .tickets) (m .cells) ≡ after (LH.own t)
+  after-own t = a .holds .lock ∙ sym (Promise.after-own (a .c .slots) (a .s .lock) w t)
+
+  pub after-receive : (t i : ℕ) → lockWith (m .counts .ends) (m .wait) (m .registrations) (m .tickets) (m .cells) ≡ after (LH.receive t i)
+  after-receive t i = a .holds .lock ∙ sym (Promise.after-receive (a .c .slots) (a .s .lock) w t i)
+
+  pub after-fill : (v i : ℕ) {stamped filled : List ℕ} → Filled (m .counts .ends) v i (m .tickets) stamped (m .cells) filled
+      → lockWith (m .counts .ends) (m .wait) (m .registrations) stamped filled ≡ after (LH.fill v i)
+  after-fill v i k =
+      rw (Promise.after-fill (a .c .slots) (a .s .lock) w v i, ← a .holds .lock) (k .1 .1 (a .c .slots) (m .wait) (m .registrations))
+
+  module _ {next : Ends} {written : List ℕ} (k : HandedOver (m .counts .ends) next (m .wait) written) where
+    pub after-pass : lockWith next written (m .registrations) (m .tickets) (m .cells) ≡ after LH.pass
+    after-pass =
+        rw (Promise.after-pass (a .c .slots) (a .s .lock) w, ← a .holds .lock, a .fit .sized .slots)
+        (k .1 .1 (m .registrations) (m .tickets) (m .cells))
+
+    pub after-leave : lockWith next written (m .registrations) (m .tickets) (m .cells) ≡ after LH.leave
+    after-leave =
+        rw (Promise.after-leave (a .c .slots) (a .s .lock) w, ← a .holds .lock, a .fit .sized .slots)
+        (k .1 .1 (m .registrations) (m .tickets) (m .cells))

@@ -1,0 +1,5 @@
+pub mod Places
+pub mod FromLock
+pub mod Stepping
+pub mod Waiting
+pub mod Owning

@@ -1,0 +1,54 @@
+-- `wait::register_step` meets its contract.
+use native.Mathlib.Omega.{arith}
+use Rattle.steps.proofs.Acting.{own-long}
+use Rattle.lock_steps.proofs.Stepping.{acting}
+use Rattle.lock_steps.proofs.Waiting.{registration-fits, register-acts}
+use borrow.Author.Needs.{needs}
+use Rattle.lock_steps.proofs.wait.register_step.Statement.{statement}
+use Rattle.lock_steps.proofs.wait.register_step.Tie as tie
+
+add-ticket : tie.Need-add-ticket
+add-ticket c = search needs
+
+mul-ticket : tie.Need-mul-ticket
+mul-ticket c = search needs
+
+slice-read-ticket : tie.Need-slice-read-ticket
+slice-read-ticket c = omega (arith, own-long (c .before .before .before .pre .0 .1))
+
+register-requires : tie.Need-register-requires
+register-requires c κs =
+    let start = c .before .before .before .before in
+    let ((m, a), place) = start .pre in
+    (omega arith, omega (arith, a .long .registrations), registration-fits a place)
+
+go-to-requires : tie.Need-go-to-requires
+go-to-requires c κs = own-long (c .before .before .before .before .before .before .before .before .pre .0 .1)
+
+same-length : tie.Need-same-length
+same-length c = search needs
+
+same-length-2 : tie.Need-same-length-2
+same-length-2 c = search needs
+
+returns : tie.Need-returns
+returns c m =
+    let at-go-to = c .before .before in
+    let at-register = at-go-to .before .before .before .before in
+    let start = at-register .before .before .before .before .before in
+    let register = at-register .register in
+    let gone = at-go-to .go-to in
+    acting (gone .last .0) (λ a. register-acts a (start .pre .1) (register .last .1 .0) (register .ensures) (gone .last .0) (gone .ensures))
+
+pub register-step-spec : {M : Type 1} → statement M
+register-step-spec =
+    tie.close
+    (tie.spec
+    add-ticket
+    mul-ticket
+    slice-read-ticket
+    register-requires
+    go-to-requires
+    same-length
+    same-length-2
+    returns)

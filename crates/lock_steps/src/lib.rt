@@ -1,0 +1,31 @@
+// The steps of a worker at the lock, and of the lock's owner. They rest on what the lock's and the tasks' functions promise.
+ghost use mathlib.Core.Path.{_≡_};
+ghost use Prim.Native.Nat.{_<_};
+ghost use lib.ListN.{length};
+ghost use Rattle.memory.specs.Layout as layout;
+ghost use Rattle.steps.specs.Layout.{shareSize};
+ghost use Rattle.lock_steps.specs.Going.{Gone, Received};
+use duties::device::receive;
+use memory::layout::PART;
+use memory::layout::SHARE;
+use steps::station::go;
+
+pub mod owner; // owner.rt: the owner of the lock
+pub mod wait; // wait.rt: a worker until it owns the lock or has a task
+
+// The worker with this share goes to a place.
+fn go_to(own: &mut [u64], place: u64, number: u64)
+    requires { ⌜ length (now own) ≡ shareSize ⌝ }
+    ensures { λ _. ⌜ Gone (now (own .entry)) (now (own .exit)) place number ⌝ }
+{
+    go(&mut own[PART..SHARE], place, number);
+}
+
+// It receives a task at a time, and goes to a place that speaks of nothing.
+fn receive_to(rows: &mut [u64], own: &mut [u64], task: u64, w: u64, time: u64, place: u64)
+    requires { ⌜ (length (now rows) ≡ layout.taskRows) × (task < layout.mostTasks) × (length (now own) ≡ shareSize) ⌝ }
+    ensures { λ _. ⌜ Received (now (rows .entry)) (now (own .entry)) (now (rows .exit)) (now (own .exit)) task w time place ⌝ }
+{
+    receive(rows, &mut own[..PART], task, w, time);
+    go_to(own, place, 0);
+}

@@ -1,0 +1,10 @@
+pub mod Layout
+pub mod Codes
+pub mod Rows
+pub mod Labels
+pub mod Shares
+pub mod Memory
+pub mod RowLaws
+pub mod ShareLaws
+pub mod Standing
+pub mod Starting

@@ -1,0 +1,4 @@
+pub mod Limits
+pub mod Lines
+pub mod Playing
+pub mod LineByLine

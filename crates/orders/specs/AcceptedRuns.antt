@@ -1,0 +1,74 @@
+-- What holds of every accepted plan: under every list of picks, and under those of its own order lines.
+use Prim.Native.Nat.{ℕ, _^_, _≤_, _<_}
+use mathlib.Core.Path.{_≡_, refl}
+use mathlib.Core.Logic.{⊎-elim}
+use mathlib.Core.Bool.{true}
+use mathlib.Core.List.{List}
+use native.Mathlib.Omega.{arith}
+use lib.ListN.{length, List·getD-eq-default}
+use Rattle.runs.specs.Update.{order}
+use Rattle.runs.specs.Picks.{Picks, Regular}
+use Rattle.plan.specs.Plan.{Plan}
+use Rattle.plan.specs.Reading.{accepted, reading}
+use Rattle.plan.specs.Orders.{picksUpTo}
+use Rattle.plan.specs.Accepted.{WellFormed, accepted-well-formed}
+use Rattle.tasks.specs.Accesses.{taskAt}
+use Rattle.machine.specs.Step.{finished}
+use Rattle.machine.specs.Ranges.{Sized}
+use Rattle.machine.specs.Safety as Safety
+use Rattle.machine.specs.Safety.Invariant.{Playable}
+use Rattle.machine.specs.Figures.{finishingFigure}
+use Rattle.machine.specs.WholeRuns.{WholeRun, whole-runs}
+use Rattle.orders.specs.Reached.{setupOf, reached}
+use Rattle.orders.specs.Picked.{picks-below}
+use Rattle.orders.specs.Sizes.{picks-few}
+
+module _ (text : List ℕ) (p : Plan) (e : reading text ≡ accepted p) where
+  formed : WellFormed p
+  formed = accepted-well-formed text p e
+
+  pub playable : Playable (setupOf p)
+  playable =
+      record {
+        workers = formed .workers-some;
+        ring = omega (arith, formed .workers-few);
+        room = omega arith;
+        distinct = λ i l. formed .tasks i l _ .addresses-once;
+      }
+
+  -- demand 3, for every list of picks of the plan's workers
+  pub accepted-runs : (ws : List ℕ) → Picks (p .workers) ws → WholeRun (setupOf p) ws
+  accepted-runs ws h = whole-runs (setupOf p) playable ws h
+
+  -- and so for the picks of its own order lines, cut at a limit
+  pub own-picks : (limit : ℕ) → Picks (p .workers) (picksUpTo limit p)
+  own-picks limit = picks-below limit p formed
+
+  pub own-run : (limit : ℕ) → WholeRun (setupOf p) (picksUpTo limit p)
+  own-run limit = accepted-runs (picksUpTo limit p) (own-picks limit)
+
+  -- at most four accesses in a task, also past the last
+  pub few-accesses : (i : ℕ) → length (taskAt (p .tasks) i .accesses) ≤ 4
+  few-accesses i =
+      ⊎-elim (λ (l : i < length (p .tasks)). formed .tasks i l _ .accesses-few)
+      (λ (l : length (p .tasks) ≤ i). rw (List·getD-eq-default (p .tasks) (record { label = _; cost = 0; accesses = _ }) l) (omega arith))
+      (order i (length (p .tasks)))
+
+  -- picks, head and tail of the state that a run reaches stay far below 2^64
+  pub numbers-small : (limit : ℕ)
+      → ((reached p limit) .picks < 2 ^ 42) × ((reached p limit) .lock .head < 2 ^ 43) × ((reached p limit) .lock .tail < 2 ^ 43)
+  numbers-small limit =
+      let (a, b) = Safety.picks-counted (setupOf p) playable (picksUpTo limit p) (own-picks limit) in
+      let (h, t, _) = Safety.ends-bounded (setupOf p) playable (picksUpTo limit p) (own-picks limit) in
+      let few = picks-few text p e limit in
+      (omega arith, omega arith, omega arith)
+
+  -- where the finishing figure applies the run is finished, with no more picks taken than that
+  pub own-finish : (limit B : ℕ) → Regular (p .workers) B (picksUpTo limit p) → finishingFigure (setupOf p) B ≤ length (picksUpTo limit p)
+      → (finished (setupOf p) (reached p limit) ≡ true) × ((reached p limit) .picks ≤ finishingFigure (setupOf p) B)
+  own-finish limit B g l = let (e, k, _) = (own-run limit) .finishing B g l in (e, k)
+
+  -- the plan is within the sizes that the layout in memory has room for
+  pub sized : Sized (setupOf p)
+  sized =
+      record { workers = formed .workers-few; slots = refl; capacity = refl; tasks = formed .tasks-few; accesses = few-accesses }

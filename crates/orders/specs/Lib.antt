@@ -1,0 +1,6 @@
+pub mod Reached
+pub mod Picked
+pub mod Sizes
+pub mod AcceptedRuns
+pub mod Limited
+pub mod Played

@@ -1,0 +1,170 @@
+-- Worker w drains the queue of worker k, which may be itself: the device's part of k changes, then that of w.
+use Prim.Native.Nat.{ℕ, suc, _+_, _≤_, _<_}
+use native.Mathlib.Omega.{arith}
+use native.Mathlib.Numerals.{add-one}
+use mathlib.Core.Path.{_≡_, refl, sym, ap, _∙_}
+use mathlib.Core.Logic.{_⊎_, inl, inr, _≢_}
+use mathlib.Core.List.{List, [], _++_}
+use lib.ListN.{length, getD, length-append}
+use borrow.Author.Tests.{lt-ltb, le-ltb}
+use Rattle.runs.specs.Update.{upd, upd-id, upd-both, map-upd}
+use Rattle.runs.specs.Circular.{entries}
+use Rattle.runs.specs.Circular.{entries-length}
+use Rattle.machine.specs.State.{Setup, State, Purpose, forServing, forAdding}
+use Rattle.machine.specs.State.{Place, idle, trying, registering, looking, draining, serving, handing, leaving}
+use Rattle.machine.specs.Step.{afterDraining, nextDrain}
+use Rattle.machine.specs.Events.{event-drain}
+use Rattle.machine.specs.Ranges.{Fit, acted}
+use Rattle.steps.specs.Layout.{partSize, stationSize, placeAt, numberAt, queuedAt, mostWorkers, CAPACITY, READY}
+use Rattle.steps.specs.Layout.{DRAINING_TO_SERVE, DRAINING_TO_ADD, SERVING, LEAVING}
+use Rattle.steps.specs.Codes.{Coded}
+use Rattle.steps.specs.Memory.{part, station, Stationed, Memory, Holds}
+use Rattle.steps.specs.declared.Counts.{Counts}
+use Rattle.steps.proofs.Parts.{station-at, part-of, station-of}
+use Rattle.steps.proofs.Stations.{queue-count}
+use Rattle.scheduler.specs.Lent.{withReady}
+use Rattle.scheduler.proofs.Lending.{withStation}
+
+-- ---- the places
+
+drains-within : (k : ℕ) → (k ≡ DRAINING_TO_SERVE) ⊎ (k ≡ DRAINING_TO_ADD) → (DRAINING_TO_SERVE ≤ k) × (k ≤ DRAINING_TO_ADD)
+drains-within k (inl e) = (omega arith, omega arith)
+drains-within k (inr e) = (omega arith, omega arith)
+
+drains-at : (k a : ℕ) (p : Place) → Coded k a p → DRAINING_TO_SERVE ≤ k → k ≤ DRAINING_TO_ADD → (x : Purpose) × (p ≡ draining x a)
+drains-at k a idle h l m = absurd (omega arith)
+drains-at k a trying h l m = absurd (omega arith)
+drains-at k a (registering t) h l m = absurd (omega (arith, h .0))
+drains-at k a (looking t) h l m = absurd (omega (arith, h .0))
+drains-at k a (draining forServing x) h l m = (forServing, ap (draining forServing) (sym (h .1)))
+drains-at k a (draining forAdding x) h l m = (forAdding, ap (draining forAdding) (sym (h .1)))
+drains-at k a (serving n) h l m = absurd (omega (arith, h .0))
+drains-at k a (handing n) h l m = absurd (omega (arith, h .0))
+drains-at k a leaving h l m = absurd (omega arith)
+
+-- the place after queue k, from the numbers of the place before
+module _ (c : Setup) (p : Purpose) (k n a : ℕ) (h : Coded n a (draining p k)) where
+  pub coded-more : k + 1 < c .workers → Coded n (k + 1) (nextDrain c p k)
+  unfolding nextDrain
+  coded-more l = rw (nextDrain, lt-ltb (suc k) (c .workers) (omega arith)) (go p h)
+    where
+      go : (x : Purpose) → Coded n a (draining x k) → Coded n (k + 1) (draining x (suc k))
+      go forServing e = (e .0, add-one k)
+      go forAdding e = (e .0, add-one k)
+
+  last : c .workers ≤ k + 1 → nextDrain c p k ≡ afterDraining c p
+  unfolding nextDrain
+  last l = rw (nextDrain, le-ltb (suc k) (c .workers) (omega arith))
+
+  pub coded-serving : c .workers ≤ k + 1 → n ≡ DRAINING_TO_SERVE → Coded SERVING 0 (nextDrain c p k)
+  coded-serving l serves = rw (last l) (go p h)
+    where
+      go : (x : Purpose) → Coded n a (draining x k) → Coded SERVING 0 (afterDraining c x)
+      go forServing e = (refl, refl)
+      go forAdding e = absurd (omega (arith, e .0))
+
+  pub coded-leaving : c .workers ≤ k + 1 → n ≢ DRAINING_TO_SERVE → Coded LEAVING 0 (nextDrain c p k)
+  coded-leaving l other = rw (last l) (go p h)
+    where
+      go : (x : Purpose) → Coded n a (draining x k) → Coded LEAVING 0 (afterDraining c x)
+      go forServing e = absurd (other (e .0))
+      go forAdding e = refl
+
+-- ---- the shares with another part of the device
+
+module _ (shares : ℕ → List ℕ) (k : ℕ) (z : List ℕ) (long : length (part (shares k)) ≡ partSize) where
+  parts-with : _≡_ {A = ℕ → List ℕ} (λ v. part (withStation shares k z v)) (λ v. part (shares v))
+  parts-with =
+      let same-part : upd (λ v. part (shares v)) k (part (part (shares k) ++ z)) ≡ upd (λ v. part (shares v)) k (part (shares k)) =
+      ap (upd (λ v. part (shares v)) k) (part-of (part (shares k)) z long) in
+      map-upd part shares k (part (shares k) ++ z) ∙ same-part ∙ upd-id (λ v. part (shares v)) k
+
+  stations-with : _≡_ {A = ℕ → List ℕ} (λ v. station (withStation shares k z v)) (upd (λ v. station (shares v)) k z)
+  stations-with =
+      map-upd station shares k (part (shares k) ++ z) ∙ ap (upd (λ v. station (shares v)) k) (station-of (part (shares k)) z long)
+
+-- ---- the step
+
+-- the numbers with r ready tasks
+abbrev pub readied : Counts → ℕ → Counts
+readied n r = record { ends = n .ends; workers = n .workers; «ready_at» = n .«ready_at»; ready = r; picks = n .picks; tally = n .tally }
+
+module _ {c : Setup} {m : Memory} {shares : ℕ → List ℕ} {s : State} {w : ℕ} (h : Holds c m shares s) (fit : Fit c s w)
+    (at : (getD (shares w) (partSize + placeAt) 0 ≡ DRAINING_TO_SERVE) ⊎ (getD (shares w) (partSize + placeAt) 0 ≡ DRAINING_TO_ADD)) where
+  abbrev stations : ℕ → List ℕ
+  stations v = station (shares v)
+
+  stands : (x : Purpose) × (s .place w ≡ draining x (getD (stations w) numberAt 0))
+  stands =
+      let (from, to) = drains-within (getD (stations w) placeAt 0) (rw (station-at (shares w) placeAt) at) in
+      drains-at (getD (stations w) placeAt 0) (getD (stations w) numberAt 0) (s .place w) (h .device .stationed w (fit .worker) .place)
+      from to
+
+  module _ {k : ℕ} (is : getD (shares w) (partSize + numberAt) 0 ≡ k) where
+    stands-at : s .place w ≡ draining (stands .0) k
+    stands-at = stands .1 ∙ ap (draining (stands .0)) (station-at (shares w) numberAt ∙ is)
+
+    drained-worker : k < c .workers
+    drained-worker = rw stands-at at (fit .place)
+
+    pub drained-below : k < mostWorkers
+    drained-below = omega (arith, drained-worker, fit .sized .workers)
+
+    pub drained-known : k < m .counts .workers
+    drained-known = omega (arith, drained-worker, h .device .workers)
+
+    pub drained-few : getD (stations k) queuedAt 0 ≤ CAPACITY
+    drained-few = omega (arith, queue-count (h .device .stationed k drained-worker), fit .queues k, fit .sized .capacity)
+
+    pub drained-room : m .counts .ready + getD (stations k) queuedAt 0 ≤ READY
+    drained-room =
+        let after : length (s .readyList ++ s .queue k) ≤ READY = rw (event-drain c s w stands-at) at (fit .room-ready) in
+        let counted = entries-length (λ i. getD (m .ready) i 0) READY (m .counts .«ready_at») (m .counts .ready) in
+        let queued = queue-count (h .device .stationed k drained-worker) in
+        omega (arith, simp length-append at after, counted, ap length (h .device .ready), queued)
+
+    module _ {one : List ℕ} (emptied : (p : Place) (q : List ℕ) → Stationed (stations k) p q → Stationed one p []) where
+      emptied-all : (v : ℕ) → v < c .workers → Stationed (upd stations k one v) (s .place v) (upd (s .queue) k [] v)
+      emptied-all v l =
+          upd-both (λ v y q. v < c .workers → Stationed y (s .place v) q) stations (s .queue) k one []
+          (λ l. emptied (s .place k) (s .queue k) (h .device .stationed k l)) (λ v d l. h .device .stationed v l) v l
+
+      emptied-own : Stationed (upd stations k one w) (draining (stands .0) k) (upd (s .queue) k [] w)
+      emptied-own = rw stands-at at (emptied-all w (fit .worker))
+
+      pub emptied-long : length (upd stations k one w) ≡ stationSize
+      emptied-long = emptied-own .long
+
+      part-whole : (v : ℕ) → v < c .workers → length (part (shares v)) ≡ partSize
+      part-whole v l = h .tasks .stored v l .long
+
+      pub emptied-stations : _≡_ {A = ℕ → List ℕ} (λ v. station (withStation shares k one v)) (upd stations k one)
+      emptied-stations = stations-with shares k one (part-whole k drained-worker)
+
+      pub drain-acts : (two more : List ℕ) (r : ℕ)
+          → ((p : Place) (q is : List ℕ) → Stationed (stations k) p q
+          → entries (λ i. getD (m .ready) i 0) READY (m .counts .«ready_at») (m .counts .ready) ≡ is
+          → entries (λ i. getD more i 0) READY (m .counts .«ready_at») r ≡ is ++ q)
+          → ((x : Purpose) (q : List ℕ) → Stationed (upd stations k one w) (draining x k) q → Stationed two (nextDrain c x k) q)
+          → Holds c (withReady m (readied (m .counts) r) more) (withStation (withStation shares k one) w two) (acted c s w)
+      drain-acts two more r moved next =
+          let to = nextDrain c (stands .0) k in
+          let first = withStation shares k one in
+          let parts = parts-with shares k one (part-whole k drained-worker) in
+          let whole : length (part (first w)) ≡ partSize = ap (λ (f : ℕ → List ℕ). length (f w)) parts ∙ part-whole w (fit .worker) in
+          let devices = stations-with first w two whole ∙ ap (λ (f : ℕ → List ℕ). upd f w two) emptied-stations in
+          rw (event-drain c s w stands-at)
+          (record {
+            lock = h .lock;
+            tasks = rw (parts-with first w two whole, parts) (h .tasks);
+            device = rw devices
+                (record {
+                  workers = h .device .workers;
+                  stationed = λ v l.
+                      upd-both (λ v y p. v < c .workers → Stationed y p (upd (s .queue) k [] v)) (upd stations k one) (s .place) w two to
+                      (λ l. next (stands .0) (upd (s .queue) k [] w) emptied-own) (λ v d l. emptied-all v l) v l;
+                  ready-at = h .device .ready-at;
+                  ready = moved (s .place k) (s .queue k) (s .readyList) (h .device .stationed k drained-worker) (h .device .ready);
+                });
+            picks = h .picks;
+          })

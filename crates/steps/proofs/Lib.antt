@@ -1,0 +1,5 @@
+pub mod Parts
+pub mod Acting
+pub mod Stations
+pub mod Standing
+pub mod Stepping

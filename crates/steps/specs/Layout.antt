@@ -1,0 +1,74 @@
+-- Where the device's numbers lie: the names of offsets and codes. `src/layout.rt` has the same.
+use Prim.Native.Nat.{ℕ, _*_, _-_}
+use Rattle.memory.specs.Layout as layout
+
+-- a worker's share: the tasks' part, then the device's
+abbrev pub shareSize : ℕ
+shareSize = layout.share
+
+abbrev pub partSize : ℕ
+partSize = layout.part
+
+abbrev pub stationSize : ℕ
+stationSize = shareSize - partSize
+
+-- the device's part: the place, what it speaks of, how many are queued; the queue's slots
+abbrev pub placeAt : ℕ
+placeAt = 0
+
+abbrev pub numberAt : ℕ
+numberAt = 1
+
+abbrev pub queuedAt : ℕ
+queuedAt = 2
+
+abbrev pub queueFrom : ℕ
+queueFrom = 8
+
+abbrev pub queueSlots : ℕ
+queueSlots = 16
+
+-- the places
+abbrev pub IDLE : ℕ
+IDLE = 0
+
+abbrev pub TRYING : ℕ
+TRYING = 1
+
+abbrev pub REGISTERING : ℕ
+REGISTERING = 2
+
+abbrev pub LOOKING : ℕ
+LOOKING = 3
+
+abbrev pub DRAINING_TO_SERVE : ℕ
+DRAINING_TO_SERVE = 4
+
+abbrev pub DRAINING_TO_ADD : ℕ
+DRAINING_TO_ADD = 5
+
+abbrev pub SERVING : ℕ
+SERVING = 6
+
+abbrev pub HANDING : ℕ
+HANDING = 7
+
+abbrev pub LEAVING : ℕ
+LEAVING = 8
+
+-- the ring, the queues and the ready list
+abbrev pub SLOTS : ℕ
+SLOTS = 64
+
+abbrev pub CAPACITY : ℕ
+CAPACITY = 8
+
+abbrev pub READY : ℕ
+READY = 128
+
+-- the workers, and the shares of all of them
+abbrev pub mostWorkers : ℕ
+mostWorkers = layout.mostWorkers
+
+abbrev pub sharesSize : ℕ
+sharesSize = mostWorkers * shareSize

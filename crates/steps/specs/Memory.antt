@@ -1,0 +1,120 @@
+-- A state of the machine in memory, by its three parts: the lock, the tasks, and where the device keeps what it was given.
+use Prim.Native.Nat.{ℕ, _+_, _*_, _-_, _%_, _<_}
+use mathlib.Core.Path.{_≡_}
+use mathlib.Core.List.{List}
+use lib.ListN.{length, getD, take, drop}
+use Rattle.runs.specs.Update.{upd}
+use Rattle.lock.specs.Arrays.{lockOf}
+use Rattle.lock.specs.declared.Ends.{Ends}
+use Rattle.runs.specs.Circular.{entries}
+use Rattle.memory.specs.Memory as T
+use Rattle.memory.specs.declared.tally.Tally.{Tally}
+use Rattle.machine.specs.State.{Setup, Place, State}
+use Rattle.machine.specs.Ranges.{Fit, acted}
+use Rattle.steps.specs.Layout.{shareSize, partSize, stationSize, placeAt, numberAt, queuedAt, queueFrom, queueSlots, mostWorkers, SLOTS, READY}
+use Rattle.steps.specs.Codes.{Coded}
+use Rattle.steps.specs.declared.Counts.{Counts}
+
+-- each share starts where the one before ended
+unfoldable pub share : List ℕ → ℕ → List ℕ
+share store w = take shareSize (drop (w * shareSize) store)
+
+-- the tasks' part of a share, and the device's
+abbrev pub part : List ℕ → List ℕ
+part own = take partSize own
+
+abbrev pub station : List ℕ → List ℕ
+station own = drop partSize own
+
+pub record Stationed (own : List ℕ) (p : Place) (q : List ℕ) : Type 0 where
+  pub long : length own ≡ stationSize
+  pub place : Coded (getD own placeAt 0) (getD own numberAt 0) p
+  pub queue : entries (λ k. getD own (queueFrom + k) 0) queueSlots 0 (getD own queuedAt 0) ≡ q
+
+-- what the workers share; each worker lies in its share of the store
+pub record Memory : Type 0 where
+  pub counts : Counts
+  pub wait : List ℕ
+  pub registrations : List ℕ
+  pub tickets : List ℕ
+  pub cells : List ℕ
+  pub ready : List ℕ
+  pub rows : List ℕ
+  pub accesses : List ℕ
+
+pub record Long (m : Memory) : Type 0 where
+  pub wait : length (m .wait) ≡ SLOTS
+  pub registrations : length (m .registrations) ≡ SLOTS
+  pub tickets : length (m .tickets) ≡ mostWorkers
+  pub cells : length (m .cells) ≡ mostWorkers
+  pub ready : length (m .ready) ≡ READY
+  pub tasks : T.Long (T.memory (m .counts .tally) (m .rows) (m .accesses))
+
+-- the memory with other numbers and another content of what is named
+abbrev pub withTasks : Memory → Counts → List ℕ → List ℕ → Memory
+withTasks m n rows accesses =
+    record {
+      counts = n;
+      wait = m .wait;
+      registrations = m .registrations;
+      tickets = m .tickets;
+      cells = m .cells;
+      ready = m .ready;
+      rows = rows;
+      accesses = accesses;
+    }
+
+abbrev pub withCounts : Memory → Counts → Memory
+withCounts m n = withTasks m n (m .rows) (m .accesses)
+
+abbrev pub withTally : Counts → Tally → Counts
+withTally n tally =
+    record { ends = n .ends; workers = n .workers; «ready_at» = n .«ready_at»; ready = n .ready; picks = n .picks; tally = tally }
+
+abbrev pub withEnds : Counts → Ends → Counts
+withEnds n ends =
+    record { ends = ends; workers = n .workers; «ready_at» = n .«ready_at»; ready = n .ready; picks = n .picks; tally = n .tally }
+
+-- the numbers without the first ready task
+abbrev pub oneTaken : Counts → Counts
+oneTaken n =
+    record {
+      ends = n .ends;
+      workers = n .workers;
+      «ready_at» = (n .«ready_at» + 1) % READY;
+      ready = n .ready - 1;
+      picks = n .picks;
+      tally = n .tally;
+    }
+
+-- the device's part
+pub record HoldsDevice (c : Setup) (n : Counts) (list : List ℕ) (stations : ℕ → List ℕ) (place : ℕ → Place) (queue : ℕ → List ℕ)
+    (readyList : List ℕ) : Type 0 where
+  pub workers : n .workers ≡ c .workers
+  pub stationed : (v : ℕ) → v < c .workers → Stationed (stations v) (place v) (queue v)
+  pub ready-at : n .«ready_at» < READY
+  pub ready : entries (λ k. getD list k 0) READY (n .«ready_at») (n .ready) ≡ readyList
+
+pub record Holds (c : Setup) (m : Memory) (shares : ℕ → List ℕ) (s : State) : Type 0 where
+  pub lock :
+      lockOf (c .slots) (m .counts .ends .head .0) (m .counts .ends .tail .0) (m .wait) (m .registrations) (m .tickets) (m .cells) ≡ s .lock
+  pub tasks : T.HoldsTasks (c .workers) (c .tasks) (T.memory (m .counts .tally) (m .rows) (m .accesses)) (λ v. part (shares v)) (s .tasks)
+      (s .stand)
+  pub device : HoldsDevice c (m .counts) (m .ready) (λ v. station (shares v)) (s .place) (s .queue) (s .readyList)
+  pub picks : m .counts .picks ≡ s .picks
+
+-- a step of worker w, its share being `own`, can be taken
+pub record Able (m : Memory) (own : List ℕ) (w : ℕ) : Type 0 where
+  pub c : Setup
+  pub s : State
+  pub shares : ℕ → List ℕ
+  pub lent : shares w ≡ own
+  pub long : Long m
+  pub holds : Holds c m shares s
+  pub fit : Fit c s w
+
+-- the step of worker w leads from one memory and share to another
+abbrev pub Acts : Memory → List ℕ → Memory → List ℕ → ℕ → Type 0
+Acts m own n next w =
+    (c : Setup) (s : State) (shares : ℕ → List ℕ) → shares w ≡ own → Long m → Holds c m shares s → Fit c s w
+    → Holds c n (upd shares w next) (acted c s w)

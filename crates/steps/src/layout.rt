@@ -1,0 +1,36 @@
+// Where the device's numbers lie: the names of offsets and codes. `specs/Layout.antt` has the same.
+
+// In the device's part: the place, what it speaks of, how many are queued; the queue's slots.
+pub const PLACE: usize = 0;
+
+pub const NUMBER: usize = 1;
+
+pub const QUEUED: usize = 2;
+
+pub const QUEUE: usize = 8;
+
+// The places.
+pub const IDLE: u64 = 0;
+
+pub const TRYING: u64 = 1;
+
+pub const REGISTERING: u64 = 2;
+
+pub const LOOKING: u64 = 3;
+
+pub const DRAINING_TO_SERVE: u64 = 4;
+
+pub const DRAINING_TO_ADD: u64 = 5;
+
+pub const SERVING: u64 = 6;
+
+pub const HANDING: u64 = 7;
+
+pub const LEAVING: u64 = 8;
+
+// The ring, the queues and the ready list.
+pub const SLOTS: u64 = 64;
+
+pub const CAPACITY: u64 = 8;
+
+pub const READY: u64 = 128;

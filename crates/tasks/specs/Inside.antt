@@ -1,0 +1,17 @@
+pub mod Statuses
+pub mod LinkLaws
+pub mod Links
+pub mod Rights
+pub mod Underway
+pub mod Messages
+pub mod Lowered
+pub mod Counting
+pub mod MessagesKept
+pub mod Order
+pub mod Stuck
+pub mod Invariant
+pub mod Keeps
+pub mod Stories
+pub mod Work
+pub mod Lists
+pub mod Histories

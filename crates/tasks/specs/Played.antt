@@ -1,0 +1,135 @@
+-- Histories computed move by move, each stopped where a plausible wrong rule would show. The device is the simplest one:
+-- a list of the tasks that it was given, from which a worker takes the first.
+use Prim.Native.Nat.{ℕ}
+use mathlib.Core.Path.{_≡_, refl}
+use mathlib.Core.Bool.{true, false}
+use mathlib.Core.List.{List, [], _∷_, _++_, map}
+use mathlib.Core.Option.{Option, none, some}
+use lib.ListN.{length, replicate}
+use Rattle.runs.specs.Update.{upd}
+use Rattle.runs.specs.Picks.{run}
+use Rattle.plan.specs.Plan.{Access, Task}
+use Rattle.plan.specs.Orders.{numbersFrom}
+use Rattle.runs.specs.Searches.{lastBelow, firstFrom}
+use Rattle.tasks.specs.Accesses.{accesses, total, taskOf, first, reader, sameAddress, prev, next}
+use Rattle.tasks.specs.Flags.{flagNumber, passesRead, passesWrite, satisfied}
+use Rattle.tasks.specs.Tasks.{Stand, free, Status, waiting, ready, running, over, Tasks}
+use Rattle.tasks.specs.Tasks as T
+use Rattle.tasks.specs.History.{Duty, Op, minds, gives, holds, takes, receives, lowered, linkMessage, passed, doneMessages, after}
+use Rattle.tasks.specs.History.{standAfter}
+use Rattle.tasks.specs.Duties.{duty, creating}
+
+pub record State : Type 0 where
+  pub tasks : Tasks
+  pub stands : ℕ → Stand
+  pub stored : List ℕ
+
+abbrev pub start : State
+start = record { tasks = T.start; stands = λ _. free; stored = [] }
+
+-- a duty first, else a task to add, else creating, else a task from the list
+abbrev taking : List ℕ → Option Op
+taking [] = none
+taking (i ∷ is) = some (takes i)
+
+abbrev creatingOr : Option Duty → List ℕ → Option Op
+creatingOr none is = taking is
+creatingOr (some d) is = some (minds d)
+
+abbrev givingOr : List ℕ → Option Duty → List ℕ → Option Op
+givingOr [] d is = creatingOr d is
+givingOr (j ∷ js) d is = some (gives j js)
+
+abbrev dutyOr : Option Duty → List ℕ → Option Duty → List ℕ → Option Op
+dutyOr none js d is = givingOr js d is
+dutyOr (some e) js d is = some (minds e)
+
+abbrev pub chooses : List Task → State → ℕ → Option Op
+chooses ts s w =
+    dutyOr (duty (s .stands w) (s .tasks .mail w)) (s .tasks .adds w) (creating ts (s .tasks .creation)) (s .stored)
+
+-- the list then
+abbrev rest : List ℕ → List ℕ
+rest [] = []
+rest (i ∷ is) = is
+
+abbrev pub storedAfter : List ℕ → Op → List ℕ
+storedAfter is (minds d) = is
+storedAfter is (gives i js) = is ++ i ∷ []
+storedAfter is (holds i) = rest is
+storedAfter is (takes i) = rest is
+storedAfter is (receives i) = is
+
+abbrev acted : List Task → State → ℕ → Option Op → State
+acted ts s w none = s
+acted ts s w (some op) =
+    record {
+      tasks = after ts 0 (s .tasks) w op;
+      stands = upd (s .stands) w (standAfter ts (s .stands w) op);
+      stored = storedAfter (s .stored) op;
+    }
+
+unfoldable pub step : List Task → State → ℕ → State
+step ts s w = acted ts s w (chooses ts s w)
+
+-- ---- what is played
+
+-- a task of no cost
+abbrev pub costless : List Access → Task
+costless xs = record { label = []; cost = 0; accesses = xs }
+
+abbrev pub reads : ℕ → Access
+reads address = record { writes = false; address = address }
+
+abbrev pub writes : ℕ → Access
+writes address = record { writes = true; address = address }
+
+abbrev pub readThenWrite : List Task
+readThenWrite = costless (reads 5 ∷ []) ∷ costless (writes 5 ∷ []) ∷ []
+
+abbrev pub writeThenRead : List Task
+writeThenRead = costless (writes 5 ∷ []) ∷ costless (reads 5 ∷ []) ∷ []
+
+-- after so many turns of worker 0: what has become of the tasks, the flags of the accesses by their numbers, and what the device has
+pub record Moment : Type 0 where
+  pub tasks : List Task
+  pub turns : ℕ
+  pub statuses : List Status
+  pub flags : List ℕ
+  pub stored : List ℕ
+
+unfoldable pub played : List Task → ℕ → State
+played ts n = run (step ts) start (replicate n 0)
+
+module _ (ts : List Task) (s : State) where
+  unfoldable pub statusesOf : List Status
+  statusesOf = map (s .tasks .status) (numbersFrom 0 (length ts))
+
+  unfoldable pub flagsOf : List ℕ
+  flagsOf = map (λ a. flagNumber (s .tasks .flags a)) (numbersFrom 0 (total ts))
+
+abbrev pub Matches : List Moment → Type 0
+Matches [] = Unit {0}
+Matches (m ∷ ms) =
+    (statusesOf (m .tasks) (played (m .tasks) (m .turns)) ≡ m .statuses)
+    × (flagsOf (m .tasks) (played (m .tasks) (m .turns)) ≡ m .flags)
+    × (played (m .tasks) (m .turns) .stored ≡ m .stored)
+    × Matches ms
+
+abbrev pub moments : List Moment
+moments =
+    -- the first task was given to the device; READ has come to the later writer, WRITE has not
+    record { tasks = readThenWrite; turns = 11; statuses = ready ∷ waiting ∷ []; flags = 27 ∷ 1 ∷ []; stored = 0 ∷ [] }
+    -- the reader runs, and the writer waits
+    ∷ record { tasks = readThenWrite; turns = 12; statuses = running ∷ waiting ∷ []; flags = 27 ∷ 1 ∷ []; stored = [] }
+    -- both are over: each flag has come once
+    ∷ record { tasks = readThenWrite; turns = 20; statuses = over ∷ over ∷ []; flags = 63 ∷ 7 ∷ []; stored = [] }
+    -- a writer runs, and nothing has come to a later reader
+    ∷ record { tasks = writeThenRead; turns = 10; statuses = running ∷ waiting ∷ []; flags = 11 ∷ 0 ∷ []; stored = [] }
+    ∷ record { tasks = writeThenRead; turns = 18; statuses = over ∷ over ∷ []; flags = 63 ∷ 7 ∷ []; stored = [] }
+    ∷ []
+
+pub plays : Matches moments
+unfolding upd lastBelow firstFrom accesses taskOf first reader sameAddress prev next passesRead passesWrite satisfied lowered after T.start
+    linkMessage passed doneMessages duty creating step played statusesOf flagsOf numbersFrom
+plays = (refl, refl, refl, (refl, refl, refl, (refl, refl, refl, (refl, refl, refl, (refl, refl, refl, tt)))))
