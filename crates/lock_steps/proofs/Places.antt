@@ -18,11 +18,11 @@ placeOf k a =
     ∷ trying
     ∷ registering a
     ∷ looking a
-    ∷ draining forServing a
-    ∷ draining forAdding a
     ∷ serving a
     ∷ handing a
     ∷ leaving
+    ∷ draining forServing a
+    ∷ draining forAdding a
     ∷ [])
     k
     idle

@@ -10,12 +10,12 @@ use Rattle.runs.specs.Searches.{lastBelow, last-zero, last-found, last-passed}
 use Rattle.memory.specs.Codes.{optionCode}
 use Rattle.machine.specs.State.{Setup, forServing, forAdding, Place, idle, trying, registering, looking, draining, serving, handing, leaving, State}
 use Rattle.machine.specs.Whereabouts.{lockStand, isOwner, owner}
-use Rattle.steps.specs.Layout.{shareSize, partSize, placeAt, numberAt, mostWorkers, sharesSize, DRAINING_TO_SERVE}
+use Rattle.steps.specs.Layout.{shareSize, partSize, placeAt, numberAt, mostWorkers, sharesSize, SERVING}
 use Rattle.steps.specs.Codes.{Coded}
 use Rattle.steps.specs.Memory.{share, station, Memory, Holds}
 
--- an owner's places are those from DRAINING_TO_SERVE on
-owns : (k a : ℕ) (p : Place) → Coded k a p → DRAINING_TO_SERVE ≤ k → isOwner (lockStand p) ≡ true
+-- an owner's places are those from SERVING on
+owns : (k a : ℕ) (p : Place) → Coded k a p → SERVING ≤ k → isOwner (lockStand p) ≡ true
 owns k a idle h l = absurd (omega (arith, h))
 owns k a trying h l = absurd (omega (arith, h))
 owns k a (registering t) h l = absurd (omega (arith, h))
@@ -25,7 +25,7 @@ owns k a (serving n) h l = refl
 owns k a (handing n) h l = refl
 owns k a leaving h l = refl
 
-owns-not : (k a : ℕ) (p : Place) → Coded k a p → k < DRAINING_TO_SERVE → isOwner (lockStand p) ≡ false
+owns-not : (k a : ℕ) (p : Place) → Coded k a p → k < SERVING → isOwner (lockStand p) ≡ false
 owns-not k a idle h l = refl
 owns-not k a trying h l = refl
 owns-not k a (registering t) h l = refl
@@ -74,12 +74,12 @@ module _ (store : List ℕ) (workers w : ℕ) (long : sharesSize ≤ length stor
     so-far : owner c s ≡ lastBelow test (suc (w - 1))
     so-far = above c m s h e ∙ ap (lastBelow test) one-more
 
-    pub owner-here : DRAINING_TO_SERVE ≤ getD store (placeIn (w - 1)) 0 → w ≡ optionCode (owner c s)
+    pub owner-here : SERVING ≤ getD store (placeIn (w - 1)) 0 → w ≡ optionCode (owner c s)
     owner-here l =
         let b = owns _ _ (s .place (w - 1)) coded (omega (arith, place-of store (w - 1) long (omega arith))) in
         one-more ∙ sym (ap optionCode (so-far ∙ last-found test (w - 1) b))
 
-    pub owner-below : getD store (placeIn (w - 1)) 0 < DRAINING_TO_SERVE → owner c s ≡ lastBelow test (w - 1)
+    pub owner-below : getD store (placeIn (w - 1)) 0 < SERVING → owner c s ≡ lastBelow test (w - 1)
     owner-below l =
         let b = owns-not _ _ (s .place (w - 1)) coded (omega (arith, place-of store (w - 1) long (omega arith))) in
         so-far ∙ last-passed test (w - 1) b

@@ -66,15 +66,14 @@ module _ {m : Memory} where
 
 -- ---- the number of a place
 
-pub drains-there : (k : ℕ) → DRAINING_TO_SERVE ≤ k → k < SERVING → (k ≡ DRAINING_TO_SERVE) ⊎ (k ≡ DRAINING_TO_ADD)
+pub drains-there : (k : ℕ) → DRAINING_TO_SERVE ≤ k → k ≤ DRAINING_TO_ADD → (k ≡ DRAINING_TO_SERVE) ⊎ (k ≡ DRAINING_TO_ADD)
 drains-there k from to =
     ⊎-elim (λ (e : k ≡ DRAINING_TO_SERVE). inl e) (λ (d : k ≢ DRAINING_TO_SERVE). inr (omega arith)) (same k DRAINING_TO_SERVE)
 
-pub drains-not : (k : ℕ) → (k < DRAINING_TO_SERVE) ⊎ (SERVING ≤ k) → (k ≢ DRAINING_TO_SERVE) × (k ≢ DRAINING_TO_ADD)
-drains-not k (inl l) = (λ e. omega arith, λ e. omega arith)
-drains-not k (inr l) = (λ e. omega arith, λ e. omega arith)
+pub drains-not : (k : ℕ) → k < DRAINING_TO_SERVE → (k ≢ DRAINING_TO_SERVE) × (k ≢ DRAINING_TO_ADD)
+drains-not k l = (λ e. omega arith, λ e. omega arith)
 
-pub own-place : {m : Memory} {own : List ℕ} {w : ℕ} → Able m own w → getD own (partSize + placeAt) 0 ≤ LEAVING
+pub own-place : {m : Memory} {own : List ℕ} {w : ℕ} → Able m own w → getD own (partSize + placeAt) 0 ≤ DRAINING_TO_ADD
 own-place {own = own} {w = w} a =
     let few = place-few (getD (station own) placeAt 0) (getD (station own) numberAt 0) (a .s .place w) (own-stationed a .place) in
     omega (arith, few, station-at own placeAt)
@@ -82,13 +81,16 @@ own-place {own = own} {w = w} a =
 past : (k m : ℕ) → m ≤ k → k ≢ m → m + 1 ≤ k
 past k m l d = omega arith
 
+before : (k m : ℕ) → k ≤ m + 1 → k ≢ m + 1 → k ≤ m
+before k m l d = omega arith
+
 -- a place that is none of the others is that of a worker that leaves
-pub leaves-at : (k : ℕ) → k ≤ LEAVING → k ≢ IDLE → k ≢ TRYING → k ≢ REGISTERING → k ≢ LOOKING
+pub leaves-at : (k : ℕ) → k ≤ DRAINING_TO_ADD → k ≢ IDLE → k ≢ TRYING → k ≢ REGISTERING → k ≢ LOOKING
     → k ≢ DRAINING_TO_SERVE → k ≢ DRAINING_TO_ADD → k ≢ SERVING → k ≢ HANDING → k ≡ LEAVING
 leaves-at k small n0 n1 n2 n3 n4 n5 n6 n7 =
-    let owner : DRAINING_TO_SERVE ≤ k = past k LOOKING (past k REGISTERING (past k TRYING (past k IDLE (omega arith) n0) n1) n2) n3 in
-    let after : LEAVING ≤ k = past k HANDING (past k SERVING (past k DRAINING_TO_ADD (past k DRAINING_TO_SERVE owner n4) n5) n6) n7 in
-    meet k after small
+    let owner : SERVING ≤ k = past k LOOKING (past k REGISTERING (past k TRYING (past k IDLE (omega arith) n0) n1) n2) n3 in
+    let after : LEAVING ≤ k = past k HANDING (past k SERVING owner n6) n7 in
+    meet k after (before k LEAVING (before k DRAINING_TO_SERVE small n5) n4)
   where
     meet : (k : ℕ) → LEAVING ≤ k → k ≤ LEAVING → k ≡ LEAVING
     meet k a b = omega arith

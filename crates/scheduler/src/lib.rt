@@ -30,7 +30,6 @@ use steps::Counts;
 use steps::create_step;
 use steps::full_step;
 use steps::layout::CAPACITY;
-use steps::layout::DRAINING_TO_ADD;
 use steps::layout::DRAINING_TO_SERVE;
 use steps::layout::HANDING;
 use steps::layout::IDLE;
@@ -199,21 +198,21 @@ pub fn pick(
     let at = w * SHARE;
     let end = at + SHARE;
     let place = store[at + PART + PLACE];
-    match place {
-        DRAINING_TO_SERVE | DRAINING_TO_ADD => drain_step(r, ready, store, w),
-        _ => step_own(
-            r,
-            wait,
-            registrations,
-            tickets,
-            cells,
-            ready,
-            rows,
-            accesses,
-            &mut store[at..end],
-            w as u64,
-        ),
+    if DRAINING_TO_SERVE <= place {
+        return drain_step(r, ready, store, w);
     }
+    step_own(
+        r,
+        wait,
+        registrations,
+        tickets,
+        cells,
+        ready,
+        rows,
+        accesses,
+        &mut store[at..end],
+        w as u64,
+    )
 }
 
 // Whether the state is finished.

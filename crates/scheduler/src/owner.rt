@@ -9,10 +9,10 @@ ghost use Rattle.steps.specs.Layout.{sharesSize, mostWorkers};
 ghost use Rattle.steps.specs.Memory.{share, Memory, Holds};
 use memory::layout::PART;
 use memory::layout::SHARE;
-use steps::layout::DRAINING_TO_SERVE;
 use steps::layout::PLACE;
+use steps::layout::SERVING;
 
-// The owner's number and 1 more, or 0. An owner's places are those from DRAINING_TO_SERVE on.
+// The owner's number and 1 more, or 0. An owner's places are those from SERVING on.
 pub fn find_owner(store: &[u64], workers: u64) -> u64
     requires { ⌜ (sharesSize ≤ length (now store)) × (workers ≤ mostWorkers) ⌝ }
     ensures { λ r. ⌜ ((c : Setup) (m : Memory) (s : State) → Holds c m (share (now (store .entry))) s → workers ≡ c .workers →
@@ -22,7 +22,7 @@ pub fn find_owner(store: &[u64], workers: u64) -> u64
     while 0 < w {
         let at = (w - 1) as usize * SHARE + PART + PLACE;
         let place = store[at];
-        if DRAINING_TO_SERVE <= place {
+        if SERVING <= place {
             return w;
         }
         w -= 1;

@@ -10,7 +10,7 @@ use lib.Seq.{getD-set-same, getD-set-other}
 use Rattle.runs.specs.Circular.{entries}
 use Rattle.runs.specs.Circular.{entries-length, entries-none, entries-snoc, entries-same, entries-push, array-push}
 use Rattle.machine.specs.State.{forServing, forAdding, Place, idle, trying, registering, looking, draining, serving, handing, leaving}
-use Rattle.steps.specs.Layout.{placeAt, numberAt, queuedAt, queueFrom, queueSlots, IDLE, LEAVING, CAPACITY, READY}
+use Rattle.steps.specs.Layout.{placeAt, numberAt, queuedAt, queueFrom, queueSlots, IDLE, DRAINING_TO_ADD, CAPACITY, READY}
 use Rattle.steps.specs.Codes.{Coded}
 use Rattle.steps.specs.Memory.{Stationed}
 
@@ -26,7 +26,7 @@ idle-at k a (serving n) h z = absurd (omega (arith, h .0))
 idle-at k a (handing n) h z = absurd (omega (arith, h .0))
 idle-at k a leaving h z = absurd (omega arith)
 
-pub place-few : (k a : ℕ) (p : Place) → Coded k a p → k ≤ LEAVING
+pub place-few : (k a : ℕ) (p : Place) → Coded k a p → k ≤ DRAINING_TO_ADD
 place-few k a idle h = omega arith
 place-few k a trying h = omega arith
 place-few k a (registering t) h = omega (arith, h .0)

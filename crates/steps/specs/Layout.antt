@@ -28,7 +28,7 @@ queueFrom = 8
 abbrev pub queueSlots : ℕ
 queueSlots = 16
 
--- the places
+-- the places: an owner's are from SERVING on, and those that drain are the last
 abbrev pub IDLE : ℕ
 IDLE = 0
 
@@ -41,20 +41,20 @@ REGISTERING = 2
 abbrev pub LOOKING : ℕ
 LOOKING = 3
 
-abbrev pub DRAINING_TO_SERVE : ℕ
-DRAINING_TO_SERVE = 4
-
-abbrev pub DRAINING_TO_ADD : ℕ
-DRAINING_TO_ADD = 5
-
 abbrev pub SERVING : ℕ
-SERVING = 6
+SERVING = 4
 
 abbrev pub HANDING : ℕ
-HANDING = 7
+HANDING = 5
 
 abbrev pub LEAVING : ℕ
-LEAVING = 8
+LEAVING = 6
+
+abbrev pub DRAINING_TO_SERVE : ℕ
+DRAINING_TO_SERVE = 7
+
+abbrev pub DRAINING_TO_ADD : ℕ
+DRAINING_TO_ADD = 8
 
 -- the ring, the queues and the ready list
 abbrev pub SLOTS : ℕ

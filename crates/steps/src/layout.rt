@@ -9,7 +9,7 @@ pub const QUEUED: usize = 2;
 
 pub const QUEUE: usize = 8;
 
-// The places.
+// The places: an owner's are from SERVING on, and those that drain are the last.
 pub const IDLE: u64 = 0;
 
 pub const TRYING: u64 = 1;
@@ -18,15 +18,15 @@ pub const REGISTERING: u64 = 2;
 
 pub const LOOKING: u64 = 3;
 
-pub const DRAINING_TO_SERVE: u64 = 4;
+pub const SERVING: u64 = 4;
 
-pub const DRAINING_TO_ADD: u64 = 5;
+pub const HANDING: u64 = 5;
 
-pub const SERVING: u64 = 6;
+pub const LEAVING: u64 = 6;
 
-pub const HANDING: u64 = 7;
+pub const DRAINING_TO_SERVE: u64 = 7;
 
-pub const LEAVING: u64 = 8;
+pub const DRAINING_TO_ADD: u64 = 8;
 
 // The ring, the queues and the ready list.
 pub const SLOTS: u64 = 64;

@@ -1,13 +1,14 @@
 -- `pick` meets its contract.
 use native.Mathlib.Omega.{arith}
-use mathlib.Core.Path.{sym}
-use mathlib.Core.Logic.{inl, inr, ⊎-elim}
+use Prim.Native.Nat.{ℕ}
+use mathlib.Core.Path.{_≡_, refl, sym}
+use mathlib.Core.List.{List}
 use Rattle.machine.specs.State.{picked}
 use Rattle.steps.specs.Layout.{placeAt}
-use Rattle.steps.specs.Memory.{share, Memory}
+use Rattle.steps.specs.Memory.{share, Memory, withCounts, Able}
 use Rattle.scheduler.specs.Lent.{memory}
 use Rattle.scheduler.proofs.Lending.{station-number, share-lent, returned-shares, returned-later}
-use Rattle.scheduler.proofs.Picking.{workers-few, drains-there, drains-not, counted-long, counted-holds, acted-holds}
+use Rattle.scheduler.proofs.Picking.{workers-few, counted, own-place, drains-there, drains-not, counted-long, counted-holds, acted-holds}
 use borrow.Author.Needs.{needs}
 use Rattle.scheduler.proofs.pick.Statement.{statement}
 use Rattle.scheduler.proofs.pick.Tie as tie
@@ -17,6 +18,21 @@ abbrev given : tie.Start → Memory
 given s =
     let x = s .args in
     memory (x .n) (x .wait .now) (x .registrations .now) (x .tickets .now) (x .cells .now) (x .ready .now) (x .rows .now) (x .accesses .now)
+
+-- with the pick counted, its worker can act
+counted-able : (s : tie.Start) {own : List ℕ} → share (s .args .store .now) (s .args .w) ≡ own
+    → Able (withCounts (given s) (counted (s .args .n))) own (s .args .w)
+counted-able s lent =
+    let (setup, state, long, holds, fit) = s .pre .1 in
+    record {
+      c = setup;
+      s = picked state;
+      shares = share (s .args .store .now);
+      lent = lent;
+      long = counted-long long;
+      holds = counted-holds holds;
+      fit = fit;
+    }
 
 add-r : tie.Need-add-r
 add-r c = search needs
@@ -42,13 +58,27 @@ slice-read-place c = search needs
 drain-step-requires : tie.Need-drain-step-requires
 drain-step-requires c κs =
     let here = c .before .before in
-    let s = here .before .before .before .before .before .before .before .before .before .before .before .before in
+    let s = here .before .before .before .before .before .before .before .before .before .before .before in
     let x = s .args in
     let (setup, state, long, holds, fit) = s .pre .1 in
-    let drains = drains-there _ (here .before .if1 .left) (here .if2 .taken) in (
-      (s .pre .0, workers-few fit, rw (station-number (x .store .now) (x .w) placeAt (omega arith)) drains),
+    let place = station-number (x .store .now) (x .w) placeAt (omega arith) in
+    let few = rw place at (own-place (counted-able s refl)) in (
+      (s .pre .0, workers-few fit, rw place (drains-there _ (here .if1 .taken) few)),
       (given s, setup, picked state, counted-long long, counted-holds holds, fit),
     )
+
+same-length : tie.Need-same-length
+same-length c = search needs
+
+same-length-2 : tie.Need-same-length-2
+same-length-2 c = search needs
+
+returns : tie.Need-returns
+returns c =
+    let done = c .before .before .before .before in
+    let s = done .before .before .before .before .before .before .before .before .before .before .before .before .before .before in
+    let d = done .drain-step in
+    (λ k u h f. acted-holds k u (s .args .w) (d .ensures .0 (given s) k (picked u) (counted-holds h) f), d .ensures .1)
 
 mul-step-own : tie.Need-mul-step-own
 mul-step-own c = search needs
@@ -70,31 +100,7 @@ step-own-requires c κs =
     let store = s .args .store .now in
     let w = s .args .w in
     let lent = share-lent store w (workers-few fit) (s .pre .0) in
-    let no-drain = drains-not _ (⊎-elim (λ t. inl (t .taken)) (λ t. inr (t .1 .left)) (here .if1 .came)) in (
-      record {
-        c = setup;
-        s = picked state;
-        shares = share store;
-        lent = sym lent;
-        long = counted-long long;
-        holds = counted-holds holds;
-        fit = fit;
-      },
-      rw (lent, station-number store w placeAt (omega arith)) no-drain,
-    )
-
-same-length : tie.Need-same-length
-same-length c = search needs
-
-same-length-2 : tie.Need-same-length-2
-same-length-2 c = search needs
-
-returns : tie.Need-returns
-returns c =
-    let done = c .before .before .before .before in
-    let s = done .before .before .before .before .before .before .before .before .before .before .before .before .before .before .before in
-    let d = done .drain-step in
-    (λ k u h f. acted-holds k u (s .args .w) (d .ensures .0 (given s) k (picked u) (counted-holds h) f), d .ensures .1)
+    (counted-able s (sym lent), rw (lent, station-number store w placeAt (omega arith)) (drains-not _ (here .if1 .left)))
 
 same-length-3 : tie.Need-same-length-3
 same-length-3 c = search needs
@@ -123,8 +129,8 @@ same-length-10 c = search needs
 returns-2 : tie.Need-returns-2
 returns-2 c =
     let done = c .before .before .before .before .before .before .before .before .before .before .before .before .before .before in
-    let asked = done .before .before .before .before .before .before .before .before .before .before .before .before in
-    let s = asked .before .before .before .before .before .before .before .before in
+    let asked = done .before .before .before .before .before .before .before .before .before in
+    let s = asked .before .before .before .before .before .before .before .before .before .before .before in
     let d = done .step-own in
     let (setup, state, long, holds, fit) = s .pre .1 in
     let store = s .args .store .now in
@@ -151,14 +157,14 @@ pick-spec =
     mul-place
     slice-read-place
     drain-step-requires
+    same-length
+    same-length-2
+    returns
     mul-step-own
     sub-step-own
     part-step-own-start
     part-step-own-end
     step-own-requires
-    same-length
-    same-length-2
-    returns
     same-length-3
     same-length-4
     same-length-5
