@@ -6,10 +6,11 @@ use Prim.Native.Nat.{ℕ, zero, suc, _+_, _-_, _%_, _≤_, _<_}
 use native.Mathlib.Omega.{arith}
 use Rattle.runs.specs.Update.{same, clash}
 use Rattle.runs.specs.Sums.{cover}
+use Rattle.runs.specs.Near.{near-mod}
 use Rattle.lock.specs.Lock.{Lock, join, workerIn, front}
 use Rattle.lock.specs.History.{Stand, out, taken, waiting, owning, serving, Holds, Owner}
 use Rattle.lock.specs.Inside.Looks.{front-some, fronted}
-use Rattle.lock.specs.Inside.Ring.{near-mod, turn-iff}
+use Rattle.lock.specs.Inside.Ring.{turn-iff}
 use Rattle.lock.specs.Inside.Invariant.{held, Given, Leads, Aside, Led, free, led, Tickets, Entry, Inv}
 
 pub held-given : (N head c : ℕ) (x : Stand) → Given N head c x → held x ≢ 0 → (N ≤ held x) × (held x < head)

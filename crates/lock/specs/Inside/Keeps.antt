@@ -5,12 +5,13 @@ use Prim.Native.Nat.{ℕ, suc, _%_, _≤_, _<_}
 use native.Mathlib.Omega.{arith}
 use borrow.Author.Tests.{eqb-true}
 use Rattle.runs.specs.Update.{same, order, upd, upd-same, upd-other, upd-all, clash}
+use Rattle.runs.specs.Near.{near-mod}
 use Rattle.lock.specs.Lock as lock
 use Rattle.lock.specs.Lock.{Lock, start, join}
 use Rattle.lock.specs.History.{Stand, out, taken, waiting, owning, serving, Op, Can, can-take, can-register, can-own, can-receive}
 use Rattle.lock.specs.History.{can-fill, can-pass, can-leave, can-try, after, standAfter}
 use Rattle.lock.specs.Inside.Looks.{seen}
-use Rattle.lock.specs.Inside.Ring.{near-mod, slots-start, slots-handed}
+use Rattle.lock.specs.Inside.Ring.{slots-start, slots-handed}
 use Rattle.lock.specs.Inside.Invariant.{held, Given, Leads, Aside, Led, free, led, Tickets, Cells, Entry, Entries, Inv}
 use Rattle.lock.specs.Inside.Facts.{held-given, not-both, leads-or-aside, led-by, room, free-or-led, slot-iff, late, unfilled}
 use Rattle.lock.specs.Inside.Facts.{front-waits}

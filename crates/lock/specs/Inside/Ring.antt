@@ -1,25 +1,9 @@
--- The ring: tickets that are near have different slots, and a ticket's turn has come exactly when it is below the tail.
+-- The ring: a ticket's turn has come exactly when it is below the tail.
 use mathlib.Core.Path.{_≡_, ap}
 use mathlib.Core.Logic.{_⊎_, inl, inr, _↔_, _≢_}
-use Prim.Native.Nat.{ℕ, suc, _+_, _*_, _/_, _%_, _≤_, _<_}
-use native.Mathlib.Nat.{div-add-mod', mul-le-mul-right}
+use Prim.Native.Nat.{ℕ, suc, _%_, _≤_, _<_}
 use native.Mathlib.Omega.{arith}
-use Rattle.runs.specs.Update.{same, order, upd, upd-same, upd-other, upd-all}
-
--- two numbers of one slot in different laps are a lap or more apart
-lap : (N a b : ℕ) → a % N ≡ b % N → a / N < b / N → a + N ≤ b
-lap N a b e h = omega (arith, div-add-mod' a N, div-add-mod' b N, mul-le-mul-right N h)
-
-pub near-mod : (N a b : ℕ) → a % N ≡ b % N → a < b + N → b < a + N → a ≡ b
-near-mod N a b e p q = go (order (a / N) (b / N)) (order (b / N) (a / N))
-  where
-    go : (a / N < b / N) ⊎ (b / N ≤ a / N) → (b / N < a / N) ⊎ (a / N ≤ b / N) → a ≡ b
-    go (inl h) k = absurd (omega (arith, lap N a b e h))
-    go (inr h) (inl k) = absurd (omega (arith, lap N b a (omega arith) k))
-    go (inr h) (inr k) = omega (arith, div-add-mod' a N, div-add-mod' b N, ap (λ (x : ℕ). x * N) (same-lap h k))
-      where
-        same-lap : b / N ≤ a / N → a / N ≤ b / N → a / N ≡ b / N
-        same-lap h k = omega arith
+use Rattle.runs.specs.Update.{same, upd, upd-same, upd-other, upd-all}
 
 -- the wait slots: none has reached the tail, and each ticket below the tail has been let in
 pub record Slots (N tail : ℕ) (wait : ℕ → ℕ) : Type 0 where
