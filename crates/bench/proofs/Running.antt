@@ -54,14 +54,16 @@ module _ (limit : ℕ) (store output text : List ℕ) where
       unfolding run
       run-read = rw (run, le-ltb 65536 (length text) short, le-ltb (length store) storeSize room) refl
 
-      pub run-refused : (x : Refusal) (n : ℕ) (left : List ℕ) → reading text ≡ refused x n → left ≡ replicate storeSize 0 ++ drop storeSize store
+      pub run-refused : (x : Refusal) (n : ℕ) (left : List ℕ) → reading text ≡ refused x n
+          → left ≡ replicate storeSize 0 ++ drop storeSize store
           → record { answer = Refuses x n; store = left; output = output } ≡ run limit store output text
       unfolding played
       run-refused x n left e q =
           ap (λ (l : List ℕ). record { answer = Refuses x n; store = l; output = output }) q
           ∙ sym (run-read ∙ ap (played limit store output) e)
 
-      written-store : (picks : ℕ) (bs : List ℕ) → (written limit store output picks bs) .store ≡ replicate storeSize 0 ++ drop storeSize store
+      written-store : (picks : ℕ) (bs : List ℕ)
+          → (written limit store output picks bs) .store ≡ replicate storeSize 0 ++ drop storeSize store
       written-store picks bs =
           ⊎-elim (λ (l : length output < length bs). ap (λ (o : Outcome). o .store) (written-short limit store output picks bs l))
           (λ (l : length bs ≤ length output). ap (λ (o : Outcome). o .store) (written-whole limit store output picks bs l))
@@ -81,10 +83,13 @@ module _ (limit : ℕ) (store output text : List ℕ) where
 pub cleared-again : (store one two three : List ℕ) → storeSize ≤ length store → one ≡ replicate storeSize 0 ++ drop storeSize store
     → drop storeSize two ≡ drop storeSize one → three ≡ replicate storeSize 0 ++ drop storeSize two
     → three ≡ replicate storeSize 0 ++ drop storeSize store
-cleared-again store one two three l a b c = c ∙ ap (λ (xs : List ℕ). replicate storeSize 0 ++ xs) (b ∙ ap (drop storeSize) a ∙ drop-front store)
+cleared-again store one two three l a b c =
+    c ∙ ap (λ (xs : List ℕ). replicate storeSize 0 ++ xs) (b ∙ ap (drop storeSize) a ∙ drop-front store)
   where
     drop-front : (xs : List ℕ) → drop storeSize (replicate storeSize 0 ++ drop storeSize xs) ≡ drop storeSize xs
     drop-front xs = drop-at (replicate storeSize 0) (drop storeSize xs) storeSize (length-replicate {A = ℕ} storeSize 0)
 
 pub cleared-zeros : (store one : List ℕ) → one ≡ replicate storeSize 0 ++ drop storeSize store → take storeSize one ≡ replicate storeSize 0
-cleared-zeros store one a = ap (take storeSize) a ∙ take-at (replicate storeSize 0) (drop storeSize store) storeSize (length-replicate {A = ℕ} storeSize 0)
+cleared-zeros store one a =
+    ap (take storeSize) a
+    ∙ take-at (replicate storeSize 0) (drop storeSize store) storeSize (length-replicate {A = ℕ} storeSize 0)

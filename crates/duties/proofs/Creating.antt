@@ -12,7 +12,7 @@ use lib.Dec.{ltb}
 use borrow.Author.Tests.{ltb-true, eq-eqb}
 use mathlib.Core.Bool.{true}
 use Rattle.runs.specs.Sums.{sum}
-use Rattle.tasks.specs.Accesses.{taskAt, first, prev}
+use Rattle.tasks.specs.Accesses.{taskAt, first, prev, total}
 use Rattle.tasks.specs.Flags.{granting, NEXT}
 use Rattle.tasks.specs.Tasks.{Status, waiting, ready, opening, linking, withCreation}
 use Rattle.plan.specs.Plan.{Task}
@@ -20,7 +20,7 @@ use Rattle.tasks.specs.History.{Op, plain, linkMessage, lowered}
 use Rattle.memory.specs.Layout as layout
 use Rattle.memory.specs.Codes.{letter, optionCode}
 use Rattle.memory.specs.Shares.{Stored}
-use Rattle.memory.specs.Rows.{taskNumber, total, TaskRows}
+use Rattle.memory.specs.Rows.{taskNumber, TaskRows}
 use Rattle.memory.specs.Memory.{TaskMemory, memory, HoldsTasks, Able, HeldAfter, unfinished, itsCreating, toCreate}
 use Rattle.memory.specs.declared.tally.Tally.{Tally}
 use Rattle.memory.specs.RowLaws.{count-set, status-set}

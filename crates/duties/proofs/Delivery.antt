@@ -9,14 +9,14 @@ use lib.ListN.{length, getD, set, length-set, length-append}
 use Rattle.runs.specs.Update.{upd, upd-same, upd-other}
 use Rattle.runs.specs.Sums.{sum}
 use Rattle.runs.specs.Stores.{first-of}
-use Rattle.tasks.specs.Accesses.{taskOf, reader, next}
+use Rattle.tasks.specs.Accesses.{taskOf, reader, next, total}
 use Rattle.tasks.specs.Flags.{Flags, flagNumber, with, passesRead, passesWrite, satisfied, Once}
 use Rattle.tasks.specs.Tasks.{Tasks, Message, Stand, free, Status, ready, withMail, withFlags}
 use Rattle.tasks.specs.History as TH
 use Rattle.tasks.specs.History.{Op, Can, can-mind, can-deliver, minds, delivers, passed, lowered, noticeOf}
 use Rattle.memory.specs.Layout as layout
 use Rattle.memory.specs.Codes.{letter, optionCode}
-use Rattle.memory.specs.Rows.{taskNumber, accessNumber, total, TaskRows, AccessRows}
+use Rattle.memory.specs.Rows.{taskNumber, accessNumber, TaskRows, AccessRows}
 use Rattle.memory.specs.Shares.{Stored}
 use Rattle.memory.specs.Memory.{TaskMemory, memory, unfinished, notices, HoldsTasks, Able, HeldAfter, itsDuty}
 use Rattle.memory.specs.ShareLaws.{adds-count, mail-count}

@@ -8,14 +8,14 @@ use lib.ListN.{length}
 use Rattle.runs.specs.Sums.{le-sum, sum-le, sum-const}
 use borrow.Author.Tests.{lt-ltb, le-ltb}
 use Rattle.plan.specs.Plan.{Task}
-use Rattle.tasks.specs.Accesses.{first}
+use Rattle.tasks.specs.Accesses.{first, total}
 use Rattle.tasks.specs.Flags.{Flags, flagNumber}
 use Rattle.tasks.specs.Tasks.{Message, Stand, free, telling, working, Creation, opening, linking, Tasks}
 use Rattle.tasks.specs.History.{Op, Can, after, minds, opens, links, closes, tells, delivers, works, ends}
 use Rattle.tasks.specs.Duties.{duty, creating}
 use Rattle.memory.specs.Layout as layout
 use Rattle.memory.specs.Codes.{Coded, Making}
-use Rattle.memory.specs.Rows.{accessNumber, total}
+use Rattle.memory.specs.Rows.{accessNumber}
 use Rattle.memory.specs.Memory.{TaskMemory, Long, Fit, Able, notices, itsDuty, itsCreating}
 use Rattle.duties.specs.FromTasks.{first-last, first-within, mail-after, adds-after}
 use Rattle.tasks.specs.Promise.{first-zero, first-suc, flags-once}

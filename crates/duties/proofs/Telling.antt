@@ -9,7 +9,8 @@ use Rattle.tasks.specs.Flags.{Flags, flagNumber, with, sent, Once}
 use Rattle.tasks.specs.Tasks.{Stand, free, telling}
 use Rattle.tasks.specs.History.{Op, after}
 use Rattle.memory.specs.Layout as layout
-use Rattle.memory.specs.Rows.{accessNumber, total}
+use Rattle.tasks.specs.Accesses.{total}
+use Rattle.memory.specs.Rows.{accessNumber}
 use Rattle.memory.specs.Shares.{Stored}
 use Rattle.memory.specs.Memory.{TaskMemory, memory, notices, Able, HeldAfter, itsDuty}
 use Rattle.memory.specs.declared.tally.Tally.{Tally}

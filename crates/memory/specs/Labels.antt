@@ -10,7 +10,9 @@ use Rattle.memory.specs.declared.labels.Label.{Label}
 
 -- where label i stands, as its row has it
 abbrev pub labelAt : List ℕ → ℕ → Label
-labelAt rows i = let row = layout.labelRow * i in record { place = getD rows (row + layout.labelPlace) 0; size = getD rows (row + layout.labelSize) 0 }
+labelAt rows i =
+    let row = layout.labelRow * i in
+    record { place = getD rows (row + layout.labelPlace) 0; size = getD rows (row + layout.labelSize) 0 }
 
 abbrev pub withLabel : List ℕ → ℕ → Label → List ℕ
 withLabel rows i l = let row = layout.labelRow * i in set (set rows (row + layout.labelPlace) (l .place)) (row + layout.labelSize) (l .size)

@@ -5,12 +5,13 @@ use mathlib.Core.List.{List}
 use mathlib.Core.Option.{Option, none, some}
 use lib.ListN.{length}
 use lib.Dec.{eqb, ltb}
-use mathlib.Core.Bool.{Bool, true, false}
+use mathlib.Core.Bool.{Bool, true, false, not}
 use Rattle.runs.specs.Update.{upd}
 use Rattle.runs.specs.Sums.{sum}
+use Rattle.runs.specs.Counts.{one}
 use Rattle.plan.specs.Plan.{Task}
 use Rattle.tasks.specs.Accesses.{taskAt}
-use Rattle.tasks.specs.Tasks.{Stand, free, telling, working, Status, new, waiting, ready, held, running, over, Tasks}
+use Rattle.tasks.specs.Tasks.{Stand, free, telling, working, Status, isOver, Tasks}
 use Rattle.tasks.specs.Promise.{Kept}
 use Rattle.tasks.specs.History.{Duty, Op, minds, Can, after, standAfter}
 use Rattle.tasks.specs.Duties.{duty, creating}
@@ -35,12 +36,7 @@ pub record Long (m : TaskMemory) : Type 0 where
 
 -- 1 for a task that is not over, and for a notice that is to be given
 abbrev pub unfinished : Status → ℕ
-unfinished new = 1
-unfinished waiting = 1
-unfinished ready = 1
-unfinished held = 1
-unfinished running = 1
-unfinished over = 0
+unfinished x = one (not (isOver x))
 
 abbrev pub notices : Stand → ℕ
 notices free = 0

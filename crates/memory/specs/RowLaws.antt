@@ -15,9 +15,10 @@ use Rattle.runs.specs.Stores.{sets-other, sets-at}
 use Rattle.plan.specs.Plan.{Task}
 use Rattle.tasks.specs.Flags.{Flags, flagNumber}
 use Rattle.tasks.specs.Tasks.{Status}
+use Rattle.tasks.specs.Accesses.{total}
 use Rattle.memory.specs.Layout as layout
 use Rattle.memory.specs.Codes.{statusCode}
-use Rattle.memory.specs.Rows.{Column, total, TaskRows, AccessRows, outcomeAt}
+use Rattle.memory.specs.Rows.{Column, TaskRows, AccessRows, outcomeAt}
 
 -- rows of any width
 module _ (wide n : ℕ) (rows : List ℕ) (k : ℕ) (in-row : k < wide) where

@@ -24,10 +24,6 @@ taskNumber rows i k = getD rows (layout.taskRow * i + k) 0
 abbrev pub accessNumber : List ℕ → ℕ → ℕ → ℕ
 accessNumber rows a k = getD rows (layout.accessRow * a + k) 0
 
--- how many accesses a plan has
-abbrev pub total : List Task → ℕ
-total ts = length (plan.accesses ts)
-
 pub record TaskRows (ts : List Task) (rows : List ℕ) (counts : ℕ → ℕ) (statuses : ℕ → Status) (runners receipts endings : ℕ → ℕ) : Type 0
   where
     pub count : Column layout.taskRow (length ts) rows layout.count counts
@@ -41,12 +37,12 @@ pub record TaskRows (ts : List Task) (rows : List ℕ) (counts : ℕ → ℕ) (s
     pub accesses : Column layout.taskRow (length ts) rows layout.accesses (λ i. length (taskAt ts i .accesses))
 
 pub record AccessRows (ts : List Task) (rows : List ℕ) (set : ℕ → Flags) : Type 0 where
-  pub flags : Column layout.accessRow (total ts) rows layout.flags (λ a. flagNumber (set a))
+  pub flags : Column layout.accessRow (plan.total ts) rows layout.flags (λ a. flagNumber (set a))
   -- of the plan: the task, 1 for a reader, the access before at the address or none, and the one after
-  pub task : Column layout.accessRow (total ts) rows layout.task (plan.taskOf ts)
-  pub reader : Column layout.accessRow (total ts) rows layout.reader (plan.reader ts)
-  pub prev : Column layout.accessRow (total ts) rows layout.prev (λ a. optionCode (plan.prev ts a))
-  pub next : Column layout.accessRow (total ts) rows layout.next (plan.next ts)
+  pub task : Column layout.accessRow (plan.total ts) rows layout.task (plan.taskOf ts)
+  pub reader : Column layout.accessRow (plan.total ts) rows layout.reader (plan.reader ts)
+  pub prev : Column layout.accessRow (plan.total ts) rows layout.prev (λ a. optionCode (plan.prev ts a))
+  pub next : Column layout.accessRow (plan.total ts) rows layout.next (plan.next ts)
 
 -- ---- rows that are laid and shown
 

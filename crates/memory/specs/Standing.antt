@@ -23,7 +23,8 @@ use Rattle.memory.specs.ShareLaws.{free-at, mail-count, adds-count}
 use Rattle.memory.specs.Memory.{toCreate}
 use Rattle.memory.specs.declared.tally.Tally.{Tally}
 
-a-duty : (x : Stand) (ms : List Message) (k a b : ℕ) → Coded k a b x → (layout.free < k) ⊎ (0 < length ms) → (d : Duty) × (duty x ms ≡ some d)
+a-duty : (x : Stand) (ms : List Message) (k a b : ℕ) → Coded k a b x → (layout.free < k) ⊎ (0 < length ms)
+    → (d : Duty) × (duty x ms ≡ some d)
 unfolding duty
 a-duty free [] k a b h u = absurd (⊎-elim (λ (l : layout.free < k). omega arith) (λ (l : 0 < 0). omega arith) u)
 a-duty free (m ∷ ms) k a b h u = (delivers m ms, refl)

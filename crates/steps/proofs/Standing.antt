@@ -40,4 +40,5 @@ module _ {m : Memory} {own : List ℕ} {w : ℕ} (a : Able m own w) where
   creates = part.creates (a .c .tasks) (m .counts .tally) (a .holds .tasks .tasks) (a .s .tasks .creation) (a .holds .tasks .creation)
 
   pub all-created : toCreate (m .counts .tally) ≡ false → creating (a .c .tasks) (a .s .tasks .creation) ≡ none
-  all-created = part.all-created (a .c .tasks) (m .counts .tally) (a .holds .tasks .tasks) (a .s .tasks .creation) (a .holds .tasks .creation)
+  all-created =
+      part.all-created (a .c .tasks) (m .counts .tally) (a .holds .tasks .tasks) (a .s .tasks .creation) (a .holds .tasks .creation)

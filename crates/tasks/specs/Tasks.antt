@@ -197,25 +197,25 @@ stage running = 4
 stage over = 5
 
 abbrev pub isOver : Status → Bool
-isOver x = eqb (stage x) 5
+isOver x = eqb (stage x) (stage over)
 
 -- each is 1 where it holds, else 0
 abbrev pub isReady : Status → ℕ
-isReady x = one (eqb (stage x) 2)
+isReady x = one (eqb (stage x) (stage ready))
 
 abbrev pub isHeld : Status → ℕ
-isHeld x = one (eqb (stage x) 3)
+isHeld x = one (eqb (stage x) (stage held))
 
 abbrev pub isRunning : Status → ℕ
-isRunning x = one (eqb (stage x) 4)
+isRunning x = one (eqb (stage x) (stage running))
 
 -- the count of the task is 0: it is ready, held, run or over
 abbrev pub pastWaiting : Status → ℕ
-pastWaiting x = one (leb 2 (stage x))
+pastWaiting x = one (leb (stage ready) (stage x))
 
 -- the task was received: it is run or over
 abbrev pub isReceived : Status → ℕ
-isReceived x = one (leb 4 (stage x))
+isReceived x = one (leb (stage running) (stage x))
 
 abbrev pub isEnded : Status → ℕ
 isEnded x = one (isOver x)
