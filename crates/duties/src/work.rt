@@ -14,6 +14,7 @@ use super::flags::DONE;
 use memory::layout;
 use memory::share::post;
 use memory::share::stand;
+use memory::share::worked;
 use memory::tally::Tally;
 
 // Posts DONE to each of so many accesses from `first` on.
@@ -61,7 +62,6 @@ pub fn work(n: Tally, rows: &mut [u64], own: &mut [u64], time: u64) -> Tally
     if steps == 0 {
         return end(n, rows, own, time);
     }
-    let task = own[layout::ABOUT];
-    stand(own, layout::WORKING, task, steps - 1);
+    worked(own, steps - 1);
     n
 }

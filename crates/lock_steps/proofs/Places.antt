@@ -1,13 +1,13 @@
 -- A worker's place in its share: what its number says, and a share in which it goes to another.
 use Prim.Native.Nat.{ℕ}
-use mathlib.Core.Path.{_≡_, _∙_}
+use mathlib.Core.Path.{_≡_, sym, subst, _∙_}
 use mathlib.Core.List.{List, [], _∷_, _++_}
-use lib.ListN.{length, getD, take, drop}
+use lib.ListN.{length, getD}
 use Rattle.machine.specs.State.{forServing, forAdding, Place, idle, trying, registering, looking, draining, serving, handing, leaving}
-use Rattle.steps.specs.Layout.{shareSize, partSize, stationSize}
+use Rattle.steps.specs.Layout.{shareSize}
 use Rattle.steps.specs.Codes.{Coded}
 use Rattle.steps.specs.Memory.{part, station, Stationed}
-use Rattle.steps.proofs.Parts.{part-of, station-of, part-long, station-long, station-lent, station-back, mid-long}
+use Rattle.steps.proofs.Parts.{station-of, part-of, lentPart, withPart, station-long, part-lent, part-back, station-still}
 use Rattle.lock_steps.specs.Going.{Gone, ReceivedBy, Received}
 
 -- the place that has code k and number a
@@ -39,32 +39,24 @@ decoded k a (handing n) h = rw (h .0, h .1)
 decoded k a leaving h = rw h
 
 -- the device's part is lent to the worker that goes, and given back as z
-pub gone : (own z : List ℕ) (k a : ℕ) → length own ≡ shareSize
-    → ((p to : Place) (queue : List ℕ) → Stationed (take stationSize (drop partSize own)) p queue → Coded k a to → Stationed z to queue)
-    → Gone own (take partSize own ++ (z ++ drop stationSize (drop partSize own))) k a
-gone own z k a long goes =
-    let y = part own in
-    let y-long = part-long own long in
-    rw (station-back own long z)
-    (record {
-      kept = part-of y z y-long;
-      there = λ p to queue h coded. rw (station-of y z y-long) (goes p to queue (rw (station-lent own long) h) coded);
-    })
+pub gone : (own z : List ℕ) (k a : ℕ) → length own ≡ shareSize → length z ≡ length (station own)
+    → ((p to : Place) (queue : List ℕ) → Stationed (station own) p queue → Coded k a to → Stationed z to queue)
+    → Gone own (z ++ part own) k a
+gone own z k a long back goes =
+    let z-long = back ∙ station-long own long in
+    record {
+      kept = part-of z (part own) z-long;
+      there = λ p to queue h coded. rw (station-of z (part own) z-long) (goes p to queue h coded);
+    }
 
 -- the tasks' part is lent, to receive a task, and given back as y; then the worker goes
-module _ (own y : List ℕ) (long : length own ≡ shareSize) (back : length y ≡ length (part own)) where
-  back-long : length y ≡ partSize
-  back-long = back ∙ part-long own long
-
-  pub given-long : length (y ++ station own) ≡ shareSize
-  given-long = mid-long y (station own) back-long (station-long own long)
-
-  pub received : (rows after next : List ℕ) (task w time k : ℕ)
-      → ReceivedBy rows (part own) after y task w time
-      → Gone (y ++ station own) next k 0 → Received rows own after next task w time k
-  received rows after next task w time k does gone =
-      let kept = gone .kept ∙ part-of y (station own) back-long in
-      record {
-        does = λ m. rw kept (does m);
-        there = λ p to queue h coded. gone .there p to queue (rw (station-of y (station own) back-long) h) coded;
-      }
+pub received : (own y : List ℕ) → length own ≡ shareSize → (rows after next : List ℕ) (task w time k : ℕ)
+    → ReceivedBy rows (lentPart own) after y task w time
+    → Gone (withPart own y) next k 0 → Received rows own after next task w time k
+received own y long rows after next task w time k does goes =
+    let back = goes .kept ∙ part-back own long y in
+    record {
+      does = subst (λ (before : List ℕ). ReceivedBy rows before after (part next) task w time) (sym (part-lent own long))
+          (λ m. rw back (does m));
+      there = λ p to queue h coded. goes .there p to queue (rw (station-still own long y) h) coded;
+    }

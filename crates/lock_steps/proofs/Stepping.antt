@@ -1,5 +1,5 @@
 -- A step of a worker at the lock, by what becomes of the lock, of the tasks and of its place.
-use Prim.Native.Nat.{ℕ, _+_, _<_}
+use Prim.Native.Nat.{ℕ, _<_}
 use native.Mathlib.Omega.{arith}
 use mathlib.Core.Path.{_≡_, refl, ap, _∙_}
 use mathlib.Core.List.{List}
@@ -15,7 +15,7 @@ use Rattle.machine.specs.State.{Setup, Place, State}
 use Rattle.machine.specs.Event.{Event, event}
 use Rattle.machine.specs.Step.{lockOp, taskOp, effect, lockAfter}
 use Rattle.machine.specs.Ranges.{Fit, acted}
-use Rattle.steps.specs.Layout.{partSize, placeAt, numberAt}
+use Rattle.steps.specs.Layout.{placeAt, numberAt}
 use Rattle.steps.specs.Memory.{part, station, Stationed, Memory, withEnds, Holds, Able, Acts}
 use Rattle.steps.proofs.Parts.{station-at}
 use Rattle.steps.proofs.Acting.{acts-hold, tasks-still, tasks-able, own-stationed}
@@ -41,10 +41,10 @@ tasks-of m = T.memory (m .counts .tally) (m .rows) (m .accesses)
 
 -- the code of the worker's place, and what that speaks of
 abbrev pub codeIn : List ℕ → ℕ
-codeIn own = getD own (partSize + placeAt) 0
+codeIn own = getD own placeAt 0
 
 abbrev pub numberIn : List ℕ → ℕ
-numberIn own = getD own (partSize + numberAt) 0
+numberIn own = getD own numberAt 0
 
 -- the step that worker w is able to take leads to the memory n and the share `next`
 abbrev pub Leads : {m : Memory} {own : List ℕ} {w : ℕ} → Able m own w → Memory → List ℕ → Type 0
@@ -65,8 +65,8 @@ module _ {m : Memory} {own : List ℕ} {w : ℕ} (a : Able m own w) where
   pub place-is : (k : ℕ) → codeIn own ≡ k → a .s .place w ≡ placeOf k (numberIn own)
   place-is k e =
       decoded (getD (station own) placeAt 0) (getD (station own) numberAt 0) (a .s .place w) (own-stationed a .place)
-      ∙ ap (λ (x : ℕ). placeOf x (getD (station own) numberAt 0)) (station-at own placeAt ∙ e)
-      ∙ ap (placeOf k) (station-at own numberAt)
+      ∙ ap (λ (x : ℕ). placeOf x (getD (station own) numberAt 0)) (station-at own placeAt (omega arith) ∙ e)
+      ∙ ap (placeOf k) (station-at own numberAt (omega arith))
 
   module _ (e : Event) (is : event (a .c) (a .s) w ≡ e) where
     -- the lock and the worker's place change, and nothing else
@@ -96,4 +96,4 @@ module _ {m : Memory} {own : List ℕ} {w : ℕ} (a : Able m own w) where
     tasks-after op its rows next does =
         let may = rw (is, its) at (a .fit .may) in
         rw (its, ← a .holds .picks)
-        (does (tasks-able a) may)
+        (does (tasks-able a refl) may)

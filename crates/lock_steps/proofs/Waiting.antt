@@ -18,7 +18,7 @@ use Rattle.memory.specs.Memory as T
 use Rattle.machine.specs.State.{forServing, forAdding, idle, registering, looking, draining}
 use Rattle.machine.specs.Event.{triesAndOwns, triesInVain, takesTicket, registers, waits, receives, owns, event}
 use Rattle.machine.specs.Events as E
-use Rattle.steps.specs.Layout.{IDLE, TRYING, REGISTERING, LOOKING, DRAINING_TO_SERVE, DRAINING_TO_ADD}
+use Rattle.steps.specs.Layout.{stationSize, IDLE, TRYING, REGISTERING, LOOKING, DRAINING_TO_SERVE, DRAINING_TO_ADD}
 use Rattle.steps.specs.Memory.{Memory, withCounts, withEnds, Able}
 use Rattle.steps.proofs.Acting.{acts-hold, own-stationed}
 use Rattle.steps.proofs.Standing.{free-of-duty, nothing-to-add, all-created}
@@ -34,8 +34,9 @@ held-out (TH.can-receive i free mail held) = held
 module _ {m : Memory} {own : List ℕ} {w : ℕ} (a : Able m own w) where
   -- ---- a worker takes a ticket
 
-  takes-ticket : codeIn own ≡ IDLE → getD own numbers.stand 0 ≡ 0 → getD own numbers.mailCount 0 ≡ 0 → getD own numbers.addsCount 0 ≡ 0
-      → (w ≢ 0) ⊎ (T.toCreate (m .counts .tally) ≡ false) → event (a .c) (a .s) w ≡ takesTicket
+  takes-ticket : codeIn own ≡ IDLE → getD own (stationSize + numbers.stand) 0 ≡ 0 → getD own (stationSize + numbers.mailCount) 0 ≡ 0
+      → getD own (stationSize + numbers.addsCount) 0 ≡ 0 → (w ≢ 0) ⊎ (T.toCreate (m .counts .tally) ≡ false)
+      → event (a .c) (a .s) w ≡ takesTicket
   takes-ticket place stand mails adds last =
       let p : a .s .place w ≡ idle = place-is a IDLE place in
       let q = free-of-duty a stand mails in
@@ -50,9 +51,9 @@ module _ {m : Memory} {own : List ℕ} {w : ℕ} (a : Able m own w) where
       (λ (n : w ≢ 0). E.event-take-ticket-other (a .c) (a .s) w p q d n)
       (same w 0)
 
-  pub ticket-acts : codeIn own ≡ IDLE → getD own numbers.stand 0 ≡ 0 → getD own numbers.mailCount 0 ≡ 0 → getD own numbers.addsCount 0 ≡ 0
-      → (w ≢ 0) ⊎ (T.toCreate (m .counts .tally) ≡ false) → (r : Taken) → Took (m .counts .ends) r
-      → (next : List ℕ) → Gone own next REGISTERING (r .ticket .0)
+  pub ticket-acts : codeIn own ≡ IDLE → getD own (stationSize + numbers.stand) 0 ≡ 0 → getD own (stationSize + numbers.mailCount) 0 ≡ 0
+      → getD own (stationSize + numbers.addsCount) 0 ≡ 0 → (w ≢ 0) ⊎ (T.toCreate (m .counts .tally) ≡ false)
+      → (r : Taken) → Took (m .counts .ends) r → (next : List ℕ) → Gone own next REGISTERING (r .ticket .0)
       → Leads a (withCounts m (withEnds (m .counts) (r .ends))) next
   ticket-acts place stand mails adds last r took next gone =
       goes a takesTicket (takes-ticket place stand mails adds last) refl (registering (a .s .lock .head)) refl

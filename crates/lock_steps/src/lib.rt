@@ -6,8 +6,8 @@ ghost use Rattle.memory.specs.Layout as layout;
 ghost use Rattle.steps.specs.Layout.{shareSize};
 ghost use Rattle.lock_steps.specs.Going.{Gone, Received};
 use duties::device::receive;
-use memory::layout::PART;
 use memory::layout::SHARE;
+use memory::layout::STATION;
 use steps::station::go;
 
 pub mod owner; // owner.rt: the owner of the lock
@@ -18,7 +18,7 @@ fn go_to(own: &mut [u64], place: u64, number: u64)
     requires { ⌜ length (now own) ≡ shareSize ⌝ }
     ensures { λ _. ⌜ Gone (now (own .entry)) (now (own .exit)) place number ⌝ }
 {
-    go(&mut own[PART..SHARE], place, number);
+    go(&mut own[..STATION], place, number);
 }
 
 // It receives a task at a time, and goes to a place that speaks of nothing.
@@ -26,6 +26,6 @@ fn receive_to(rows: &mut [u64], own: &mut [u64], task: u64, w: u64, time: u64, p
     requires { ⌜ (length (now rows) ≡ layout.taskRows) × (task < layout.mostTasks) × (length (now own) ≡ shareSize) ⌝ }
     ensures { λ _. ⌜ Received (now (rows .entry)) (now (own .entry)) (now (rows .exit)) (now (own .exit)) task w time place ⌝ }
 {
-    receive(rows, &mut own[..PART], task, w, time);
+    receive(rows, &mut own[STATION..SHARE], task, w, time);
     go_to(own, place, 0);
 }

@@ -1,15 +1,14 @@
 // The steps of an owner after it has drained the queues: it serves waiters, takes a task for itself, hands over and leaves.
 ghost use mathlib.Core.Path.{_≡_};
-ghost use Prim.Native.Nat.{_+_, _<_};
+ghost use Prim.Native.Nat.{_<_};
 ghost use lib.ListN.{getD};
-ghost use Rattle.steps.specs.Layout.{partSize, placeAt, SERVING, HANDING, LEAVING, READY};
+ghost use Rattle.steps.specs.Layout.{placeAt, SERVING, HANDING, LEAVING, READY};
 ghost use Rattle.steps.specs.Memory.{Memory, oneTaken, Able, Acts};
 ghost use Rattle.lock_steps.specs.Lent.{withWait, withServed};
 use super::go_to;
 use super::receive_to;
 use duties::device::hold;
 use lock::Front;
-use memory::layout::PART;
 use steps::Counts;
 use steps::layout::HANDING;
 use steps::layout::IDLE;
@@ -43,7 +42,7 @@ pub fn serve_step(
     w: u64,
 ) -> Counts
     requires { ⌜ ((m : Memory) × Able (withServed m n (now registrations) (now tickets) (now cells) (now ready) (now rows)) (now own) w)
-        × (getD (now own) (partSize + placeAt) 0 ≡ SERVING) ⌝ }
+        × (getD (now own) placeAt 0 ≡ SERVING) ⌝ }
     ensures { λ r. ⌜ ((m : Memory) →
         Acts
         (withServed m n (now (registrations .entry)) (now (tickets .entry)) (now (cells .entry)) (now (ready .entry)) (now (rows .entry)))
@@ -57,7 +56,7 @@ pub fn serve_step(
     }
     let at = n.ready_at as usize;
     let task = ready[at];
-    let served = own[PART + NUMBER];
+    let served = own[NUMBER];
     if served + 1 < n.workers {
         let front = lock::front_waiter(SLOTS, n.ends, registrations);
         if let Front::Waiter(waiter) = front {
@@ -73,11 +72,11 @@ pub fn serve_step(
 
 // Hands over to the waiter that it has served, and stays.
 pub fn hand_step(n: Counts, wait: &mut [u64], own: &mut [u64], w: u64) -> Counts
-    requires { ⌜ ((m : Memory) × Able (withWait m n (now wait)) (now own) w) × (getD (now own) (partSize + placeAt) 0 ≡ HANDING) ⌝ }
+    requires { ⌜ ((m : Memory) × Able (withWait m n (now wait)) (now own) w) × (getD (now own) placeAt 0 ≡ HANDING) ⌝ }
     ensures { λ r. ⌜ ((m : Memory) → Acts (withWait m n (now (wait .entry))) (now (own .entry))
         (withWait m r (now (wait .exit))) (now (own .exit)) w) ⌝ }
 {
-    let served = own[PART + NUMBER];
+    let served = own[NUMBER];
     go_to(own, SERVING, served + 1);
     let ends = lock::hand_over(SLOTS, n.ends, wait);
     with_ends(n, ends)
@@ -85,7 +84,7 @@ pub fn hand_step(n: Counts, wait: &mut [u64], own: &mut [u64], w: u64) -> Counts
 
 // Hands over and leaves, with what it has in hand.
 pub fn leave_step(n: Counts, wait: &mut [u64], own: &mut [u64], w: u64) -> Counts
-    requires { ⌜ ((m : Memory) × Able (withWait m n (now wait)) (now own) w) × (getD (now own) (partSize + placeAt) 0 ≡ LEAVING) ⌝ }
+    requires { ⌜ ((m : Memory) × Able (withWait m n (now wait)) (now own) w) × (getD (now own) placeAt 0 ≡ LEAVING) ⌝ }
     ensures { λ r. ⌜ ((m : Memory) → Acts (withWait m n (now (wait .entry))) (now (own .entry))
         (withWait m r (now (wait .exit))) (now (own .exit)) w) ⌝ }
 {

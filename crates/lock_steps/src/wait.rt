@@ -6,7 +6,7 @@ ghost use Prim.Native.Nat.{_+_};
 ghost use lib.ListN.{getD};
 ghost use Rattle.memory.specs.Layout as part;
 ghost use Rattle.memory.specs.Memory.{toCreate};
-ghost use Rattle.steps.specs.Layout.{partSize, placeAt, IDLE, TRYING, REGISTERING, LOOKING};
+ghost use Rattle.steps.specs.Layout.{stationSize, placeAt, IDLE, TRYING, REGISTERING, LOOKING};
 ghost use Rattle.steps.specs.Memory.{Memory, withCounts, Able, Acts};
 ghost use Rattle.lock_steps.specs.Lent.{withRegistrations, withSeen};
 use super::go_to;
@@ -14,7 +14,6 @@ use super::receive_to;
 use lock::Looked;
 use lock::Ticket;
 use lock::Worker;
-use memory::layout::PART;
 use steps::Counts;
 use steps::layout::DRAINING_TO_ADD;
 use steps::layout::DRAINING_TO_SERVE;
@@ -27,9 +26,9 @@ use steps::with_ends;
 
 // Takes a ticket: worker 0 only after the last task is created.
 pub fn ticket_step(n: Counts, own: &mut [u64], w: u64) -> Counts
-    requires { ⌜ ((m : Memory) × Able (withCounts m n) (now own) w) × (getD (now own) (partSize + placeAt) 0 ≡ IDLE) ⌝ }
-    requires { ⌜ (getD (now own) part.stand 0 ≡ 0) × (getD (now own) part.mailCount 0 ≡ 0) × (getD (now own) part.addsCount 0 ≡ 0)
-        × ((w ≢ 0) ⊎ (toCreate (n .tally) ≡ false)) ⌝ }
+    requires { ⌜ ((m : Memory) × Able (withCounts m n) (now own) w) × (getD (now own) placeAt 0 ≡ IDLE) ⌝ }
+    requires { ⌜ (getD (now own) (stationSize + part.stand) 0 ≡ 0) × (getD (now own) (stationSize + part.mailCount) 0 ≡ 0)
+        × (getD (now own) (stationSize + part.addsCount) 0 ≡ 0) × ((w ≢ 0) ⊎ (toCreate (n .tally) ≡ false)) ⌝ }
     ensures { λ r. ⌜ ((m : Memory) → Acts (withCounts m n) (now (own .entry)) (withCounts m r) (now (own .exit)) w) ⌝ }
 {
     let taken = lock::take_ticket(n.ends);
@@ -42,11 +41,11 @@ pub fn ticket_step(n: Counts, own: &mut [u64], w: u64) -> Counts
 // Registers with its ticket.
 pub fn register_step(n: Counts, registrations: &mut [u64], own: &mut [u64], w: u64)
     requires { ⌜ ((m : Memory) × Able (withRegistrations m n (now registrations)) (now own) w)
-        × (getD (now own) (partSize + placeAt) 0 ≡ REGISTERING) ⌝ }
+        × (getD (now own) placeAt 0 ≡ REGISTERING) ⌝ }
     ensures { λ _. ⌜ ((m : Memory) → Acts (withRegistrations m n (now (registrations .entry))) (now (own .entry))
         (withRegistrations m n (now (registrations .exit))) (now (own .exit)) w) ⌝ }
 {
-    let ticket = own[PART + NUMBER];
+    let ticket = own[NUMBER];
     lock::register(SLOTS, registrations, Ticket(ticket), Worker(w));
     go_to(own, LOOKING, ticket);
 }
@@ -62,12 +61,12 @@ pub fn look_step(
     w: u64,
 )
     requires { ⌜ ((m : Memory) × Able (withSeen m n (now wait) (now tickets) (now cells) (now rows)) (now own) w)
-        × (getD (now own) (partSize + placeAt) 0 ≡ LOOKING) ⌝ }
+        × (getD (now own) placeAt 0 ≡ LOOKING) ⌝ }
     ensures { λ _. ⌜ ((m : Memory) →
         Acts (withSeen m n (now (wait .entry)) (now (tickets .entry)) (now (cells .entry)) (now (rows .entry))) (now (own .entry))
         (withSeen m n (now (wait .entry)) (now (tickets .entry)) (now (cells .entry)) (now (rows .exit))) (now (own .exit)) w) ⌝ }
 {
-    let ticket = own[PART + NUMBER];
+    let ticket = own[NUMBER];
     let looked = lock::look(SLOTS, wait, tickets, cells, Ticket(ticket), Worker(w));
     match looked {
         Looked::NotYet => {}
@@ -82,7 +81,7 @@ pub fn look_step(
 
 // Tries the lock, its queue being full: where it is free the worker takes a ticket and owns it.
 pub fn try_step(n: Counts, own: &mut [u64], w: u64) -> Counts
-    requires { ⌜ ((m : Memory) × Able (withCounts m n) (now own) w) × (getD (now own) (partSize + placeAt) 0 ≡ TRYING) ⌝ }
+    requires { ⌜ ((m : Memory) × Able (withCounts m n) (now own) w) × (getD (now own) placeAt 0 ≡ TRYING) ⌝ }
     ensures { λ r. ⌜ ((m : Memory) → Acts (withCounts m n) (now (own .entry)) (withCounts m r) (now (own .exit)) w) ⌝ }
 {
     if lock::is_free(n.ends) {

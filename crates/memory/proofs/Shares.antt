@@ -12,7 +12,7 @@ use lib.Seq.{getD-set-same, getD-set-other, set-getD}
 use lib.Dec.{eqb}
 use borrow.Author.Tests.{eqb-false}
 use Rattle.runs.specs.Circular.{entries, entries-mod, entries-pop, entries-same, entries-push}
-use Rattle.tasks.specs.Tasks.{Message, Stand}
+use Rattle.tasks.specs.Tasks.{Message, Stand, working}
 use Rattle.memory.specs.Layout as layout
 use Rattle.memory.specs.Codes.{Coded, letter}
 use Rattle.memory.specs.Shares.{mailSlot, addSlot, Stored}
@@ -189,6 +189,12 @@ module _ {own : List ℕ} {p : Stand} {ms : List Message} {js : List ℕ} (h : S
       (λ k below other. kept own i v (addAt k) (λ e. other (omega arith)))) in
       stored (stand-kept new layout.addsCount (n + 1) p (omega arith) (stand-kept own i v p (omega arith) (h .stand)))
       (rw (kept own i v layout.addsAt (λ e. omega arith), more) at (lists-adds free (n + 1)))
+
+pub stored-worked : {own : List ℕ} {i n : ℕ} {ms : List Message} {js : List ℕ} → Stored own (working i n) ms js → (left : ℕ)
+    → Stored (set own layout.left left) (working i left) ms js
+stored-worked {own} {i} h left =
+    rw (set-getD own layout.stand 0, set-getD own layout.about 0) at
+    (stored-stand h (getD own layout.stand 0) (getD own layout.about 0) left (working i left) (h .stand .0, h .stand .1, refl))
 
 pub stored-take-add : {own : List ℕ} {p : Stand} {ms : List Message} {i : ℕ} {js : List ℕ} → Stored own p ms (i ∷ js)
     → (getD own (addAt (getD own layout.addsAt 0)) 0 ≡ i)

@@ -1,5 +1,5 @@
 -- Where tasks, accesses and a worker's share lie in numbers: the names of `src/layout.rt`.
-use Prim.Native.Nat.{ℕ, _*_}
+use Prim.Native.Nat.{ℕ, _*_, _-_}
 
 -- What there is room for.
 abbrev pub mostWorkers : ℕ
@@ -86,12 +86,15 @@ labelPlace = 0
 abbrev pub labelSize : ℕ
 labelSize = 1
 
--- A worker's share: the tasks' part, and behind it the device's.
+-- A worker's share: the device's part, and behind it the tasks'.
 abbrev pub share : ℕ
 share = 256
 
+abbrev pub station : ℕ
+station = 96
+
 abbrev pub part : ℕ
-part = 160
+part = share - station
 
 -- The numbers of the tasks' part: the stand, what it is about and what is left of it; of the tasks to add and of the mail, the slot of the
 -- oldest and how many there are.

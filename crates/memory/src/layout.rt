@@ -58,10 +58,10 @@ pub const LABEL_PLACE: usize = 0;
 
 pub const LABEL_SIZE: usize = 1;
 
-// A worker's share: the tasks' part, and behind it the device's.
+// A worker's share: the device's part, and behind it the tasks'.
 pub const SHARE: usize = 256;
 
-pub const PART: usize = 160;
+pub const STATION: usize = 96;
 
 // The numbers of the tasks' part: the stand, what it is about and what is left of it; of the tasks to add and of the mail, the slot of the
 // oldest and how many there are.

@@ -15,7 +15,7 @@ use Rattle.machine.specs.State.{Place, idle, trying, registering, looking, drai
 use Rattle.machine.specs.Step.{afterDraining, nextDrain}
 use Rattle.machine.specs.Events.{event-drain}
 use Rattle.machine.specs.Ranges.{Fit, acted}
-use Rattle.steps.specs.Layout.{partSize, stationSize, placeAt, numberAt, queuedAt, mostWorkers, CAPACITY, READY}
+use Rattle.steps.specs.Layout.{stationSize, placeAt, numberAt, queuedAt, mostWorkers, CAPACITY, READY}
 use Rattle.steps.specs.Layout.{DRAINING_TO_SERVE, DRAINING_TO_ADD, SERVING, LEAVING}
 use Rattle.steps.specs.Codes.{Coded}
 use Rattle.steps.specs.Memory.{part, station, Stationed, Memory, Holds}
@@ -72,16 +72,16 @@ module _ (c : Setup) (p : Purpose) (k n a : ℕ) (h : Coded n a (draining p k)) 
 
 -- ---- the shares with another part of the device
 
-module _ (shares : ℕ → List ℕ) (k : ℕ) (z : List ℕ) (long : length (part (shares k)) ≡ partSize) where
+module _ (shares : ℕ → List ℕ) (k : ℕ) (z : List ℕ) (long : length z ≡ stationSize) where
   parts-with : _≡_ {A = ℕ → List ℕ} (λ v. part (withStation shares k z v)) (λ v. part (shares v))
   parts-with =
-      let same-part : upd (λ v. part (shares v)) k (part (part (shares k) ++ z)) ≡ upd (λ v. part (shares v)) k (part (shares k)) =
-      ap (upd (λ v. part (shares v)) k) (part-of (part (shares k)) z long) in
-      map-upd part shares k (part (shares k) ++ z) ∙ same-part ∙ upd-id (λ v. part (shares v)) k
+      let same-part : upd (λ v. part (shares v)) k (part (z ++ part (shares k))) ≡ upd (λ v. part (shares v)) k (part (shares k)) =
+      ap (upd (λ v. part (shares v)) k) (part-of z (part (shares k)) long) in
+      map-upd part shares k (z ++ part (shares k)) ∙ same-part ∙ upd-id (λ v. part (shares v)) k
 
   stations-with : _≡_ {A = ℕ → List ℕ} (λ v. station (withStation shares k z v)) (upd (λ v. station (shares v)) k z)
   stations-with =
-      map-upd station shares k (part (shares k) ++ z) ∙ ap (upd (λ v. station (shares v)) k) (station-of (part (shares k)) z long)
+      map-upd station shares k (z ++ part (shares k)) ∙ ap (upd (λ v. station (shares v)) k) (station-of z (part (shares k)) long)
 
 -- ---- the step
 
@@ -90,19 +90,19 @@ abbrev pub readied : Counts → ℕ → Counts
 readied n r = record { ends = n .ends; workers = n .workers; «ready_at» = n .«ready_at»; ready = r; picks = n .picks; tally = n .tally }
 
 module _ {c : Setup} {m : Memory} {shares : ℕ → List ℕ} {s : State} {w : ℕ} (h : Holds c m shares s) (fit : Fit c s w)
-    (at : (getD (shares w) (partSize + placeAt) 0 ≡ DRAINING_TO_SERVE) ⊎ (getD (shares w) (partSize + placeAt) 0 ≡ DRAINING_TO_ADD)) where
+    (at : (getD (shares w) placeAt 0 ≡ DRAINING_TO_SERVE) ⊎ (getD (shares w) placeAt 0 ≡ DRAINING_TO_ADD)) where
   abbrev stations : ℕ → List ℕ
   stations v = station (shares v)
 
   stands : (x : Purpose) × (s .place w ≡ draining x (getD (stations w) numberAt 0))
   stands =
-      let (from, to) = drains-within (getD (stations w) placeAt 0) (rw (station-at (shares w) placeAt) at) in
+      let (from, to) = drains-within (getD (stations w) placeAt 0) (rw (station-at (shares w) placeAt (omega arith)) at) in
       drains-at (getD (stations w) placeAt 0) (getD (stations w) numberAt 0) (s .place w) (h .device .stationed w (fit .worker) .place)
       from to
 
-  module _ {k : ℕ} (is : getD (shares w) (partSize + numberAt) 0 ≡ k) where
+  module _ {k : ℕ} (is : getD (shares w) numberAt 0 ≡ k) where
     stands-at : s .place w ≡ draining (stands .0) k
-    stands-at = stands .1 ∙ ap (draining (stands .0)) (station-at (shares w) numberAt ∙ is)
+    stands-at = stands .1 ∙ ap (draining (stands .0)) (station-at (shares w) numberAt (omega arith) ∙ is)
 
     drained-worker : k < c .workers
     drained-worker = rw stands-at at (fit .place)
@@ -135,11 +135,11 @@ module _ {c : Setup} {m : Memory} {shares : ℕ → List ℕ} {s : State} {w : �
       pub emptied-long : length (upd stations k one w) ≡ stationSize
       emptied-long = emptied-own .long
 
-      part-whole : (v : ℕ) → v < c .workers → length (part (shares v)) ≡ partSize
-      part-whole v l = h .tasks .stored v l .long
+      one-long : length one ≡ stationSize
+      one-long = emptied (s .place k) (s .queue k) (h .device .stationed k drained-worker) .long
 
       pub emptied-stations : _≡_ {A = ℕ → List ℕ} (λ v. station (withStation shares k one v)) (upd stations k one)
-      emptied-stations = stations-with shares k one (part-whole k drained-worker)
+      emptied-stations = stations-with shares k one one-long
 
       pub drain-acts : (two more : List ℕ) (r : ℕ)
           → ((p : Place) (q is : List ℕ) → Stationed (stations k) p q
@@ -150,19 +150,18 @@ module _ {c : Setup} {m : Memory} {shares : ℕ → List ℕ} {s : State} {w : �
       drain-acts two more r moved next =
           let to = nextDrain c (stands .0) k in
           let first = withStation shares k one in
-          let parts = parts-with shares k one (part-whole k drained-worker) in
-          let whole : length (part (first w)) ≡ partSize = ap (λ (f : ℕ → List ℕ). length (f w)) parts ∙ part-whole w (fit .worker) in
-          let devices = stations-with first w two whole ∙ ap (λ (f : ℕ → List ℕ). upd f w two) emptied-stations in
+          let own = next (stands .0) (upd (s .queue) k [] w) emptied-own in
+          let devices = stations-with first w two (own .long) ∙ ap (λ (f : ℕ → List ℕ). upd f w two) emptied-stations in
           rw (event-drain c s w stands-at)
           (record {
             lock = h .lock;
-            tasks = rw (parts-with first w two whole, parts) (h .tasks);
+            tasks = rw (parts-with first w two (own .long), parts-with shares k one one-long) (h .tasks);
             device = rw devices
                 (record {
                   workers = h .device .workers;
                   stationed = λ v l.
                       upd-both (λ v y p. v < c .workers → Stationed y p (upd (s .queue) k [] v)) (upd stations k one) (s .place) w two to
-                      (λ l. next (stands .0) (upd (s .queue) k [] w) emptied-own) (λ v d l. emptied-all v l) v l;
+                      (λ l. own) (λ v d l. emptied-all v l) v l;
                   ready-at = h .device .ready-at;
                   ready = moved (s .place k) (s .queue k) (s .readyList) (h .device .stationed k drained-worker) (h .device .ready);
                 });

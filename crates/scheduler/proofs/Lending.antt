@@ -5,9 +5,9 @@ use mathlib.Core.Path.{_≡_, sym, ap, _∙_}
 use mathlib.Core.Logic.{_≢_, ⊎-elim}
 use mathlib.Core.List.{List, _++_, append-assoc}
 use lib.ListN.{length, getD, take, drop, length-append, length-take, length-drop, take-append-drop}
-use lib.Seq.{length-take-le, take-append-le, drop-append-le, take-at, drop-at, drop-drop, take-take, take-add, getD-take, getD-drop}
+use lib.Seq.{length-take-le, take-append-le, drop-append-le, take-at, drop-at, drop-drop, take-take, getD-take, getD-drop}
 use Rattle.runs.specs.Update.{order, upd, upd-only}
-use Rattle.steps.specs.Layout.{shareSize, partSize, stationSize, mostWorkers, sharesSize}
+use Rattle.steps.specs.Layout.{shareSize, stationSize, mostWorkers, sharesSize}
 use Rattle.steps.specs.Memory.{share, part, station}
 
 -- the list s with the k numbers from a on replaced by y, as a loan of s[a..a + k] gives it back
@@ -44,12 +44,12 @@ module _ (a k : ℕ) (s y : List ℕ) (fits : a + k ≤ length s) (long : length
       let split : m ≡ a + k + (m - (a + k)) = omega arith in
       rw split (sym (drop-drop (m - (a + k)) (a + k) (put a k s y)) ∙ ap (drop (m - (a + k))) rest ∙ drop-drop (m - (a + k)) (a + k) s)
 
--- where the share of worker w starts, where the device's part of it does, and where both end
+-- where the share of worker w starts, with the device's part of it, where that part ends, and where the share does
 abbrev from : ℕ → ℕ
 from w = w * shareSize
 
-abbrev device : ℕ → ℕ
-device w = w * shareSize + partSize
+abbrev device-end : ℕ → ℕ
+device-end w = w * shareSize + stationSize
 
 abbrev end : ℕ → ℕ
 end w = w * shareSize + shareSize
@@ -59,22 +59,16 @@ abbrev lent : List ℕ → ℕ → List ℕ
 lent store w = take (end w - from w) (drop (from w) store)
 
 abbrev lent-device : List ℕ → ℕ → List ℕ
-lent-device store w = take (end w - device w) (drop (device w) store)
+lent-device store w = take (device-end w - from w) (drop (from w) store)
 
 -- a number of a share, where the store has it
-share-at : (store : List ℕ) (w i : ℕ) → i < shareSize → getD (share store w) i 0 ≡ getD store (from w + i) 0
+pub share-at : (store : List ℕ) (w i : ℕ) → i < shareSize → getD (share store w) i 0 ≡ getD store (from w + i) 0
 unfolding share
 share-at store w i small = getD-take shareSize (drop (from w) store) i 0 small ∙ getD-drop (from w) store i 0
 
--- and one of the device's part
-pub station-number : (store : List ℕ) (w i : ℕ) → i < stationSize → getD (share store w) (partSize + i) 0 ≡ getD store (device w + i) 0
-station-number store w i small =
-    let place : from w + (partSize + i) ≡ device w + i = omega arith in
-    share-at store w (partSize + i) (omega arith) ∙ ap (λ (k : ℕ). getD store k 0) place
-
 -- the shares, but z for the device's part of worker w
 abbrev pub withStation : (ℕ → List ℕ) → ℕ → List ℕ → ℕ → List ℕ
-withStation shares w z = upd shares w (part (shares w) ++ z)
+withStation shares w z = upd shares w (z ++ part (shares w))
 
 module _ (store : List ℕ) (w : ℕ) (few : w < mostWorkers) (long : sharesSize ≤ length store) where
   pub share-length : length (share store w) ≡ shareSize
@@ -85,7 +79,7 @@ module _ (store : List ℕ) (w : ℕ) (few : w < mostWorkers) (long : sharesSize
   size : end w - from w ≡ shareSize
   size = omega arith
 
-  size-device : end w - device w ≡ stationSize
+  size-device : device-end w - from w ≡ stationSize
   size-device = omega arith
 
   -- ---- what is lent
@@ -96,11 +90,7 @@ module _ (store : List ℕ) (w : ℕ) (few : w < mostWorkers) (long : sharesSize
 
   pub station-lent : lent-device store w ≡ station (share store w)
   unfolding share
-  station-lent =
-      let own = drop (from w) store in
-      let front-part : length (take partSize own) ≡ partSize = length-take-le partSize own (simp length-drop (omega arith)) in
-      rw (size-device, ← drop-drop partSize (from w) store, take-add partSize stationSize own)
-      (sym (drop-at (take partSize own) (take stationSize (drop partSize own)) partSize front-part))
+  station-lent = rw size-device (sym (take-take stationSize shareSize (drop (from w) store) (omega arith)))
 
   -- ---- the store with another share
 
@@ -143,27 +133,27 @@ module _ (store : List ℕ) (w : ℕ) (few : w < mostWorkers) (long : sharesSize
 
   -- ---- and once the device's part of one is back
 
-  device-put : (z : List ℕ) → put (device w) stationSize store z ≡ put (from w) shareSize store (part (share store w) ++ z)
+  device-put : (z : List ℕ) → put (from w) stationSize store z ≡ put (from w) shareSize store (z ++ part (share store w))
   unfolding share
   device-put z =
       let own = drop (from w) store in
-      let reaches : device w + stationSize ≡ end w = omega arith in
-      let behind : drop stationSize (drop (device w) store) ≡ drop shareSize own =
-      drop-drop stationSize (device w) store ∙ ap (λ (i : ℕ). drop i store) reaches ∙ sym (drop-drop shareSize (from w) store) in
-      rw (behind, take-add (from w) partSize store, take-take partSize shareSize own (omega arith), append-assoc, append-assoc)
+      let inside : stationSize ≤ length (take shareSize own) = omega (arith, share-length) in
+      let behind : drop stationSize own ≡ drop stationSize (take shareSize own) ++ drop shareSize own =
+      rw (take-append-drop shareSize own) at (drop-append-le stationSize (take shareSize own) (drop shareSize own) inside) in
+      rw (append-assoc, behind)
 
   module _ (z : List ℕ) (back : length z ≡ length (lent-device store w)) where
     abbrev own-with : List ℕ
-    own-with = part (share store w) ++ z
+    own-with = z ++ part (share store w)
 
     long-with : length own-with ≡ shareSize
     long-with =
         let own = share store w in
         let long-z : length z ≡ length (station own) = back ∙ ap length station-lent in
-        omega (arith, length-append (part own) z, long-z, length-take partSize own, length-drop partSize own, share-length)
+        omega (arith, length-append z (part own), long-z, length-take stationSize own, length-drop stationSize own, share-length)
 
     abbrev replaced : List ℕ
-    replaced = put (device w) (end w - device w) store z
+    replaced = put (from w) (device-end w - from w) store z
 
     pub replaced-length : length replaced ≡ length store
     replaced-length = rw (size-device, device-put z) (whole-length own-with long-with)
@@ -178,7 +168,7 @@ module _ (store : List ℕ) (w : ℕ) (few : w < mostWorkers) (long : sharesSize
 module _ (store : List ℕ) (k w : ℕ) (low : k < mostWorkers) (few : w < mostWorkers) (long : sharesSize ≤ length store)
     (one : List ℕ) (back : length one ≡ length (lent-device store k)) where
   abbrev first : List ℕ
-  first = put (device k) (end k - device k) store one
+  first = put (from k) (device-end k - from k) store one
 
   first-long : sharesSize ≤ length first
   first-long = omega (arith, replaced-length store k low long one back)
@@ -188,7 +178,7 @@ module _ (store : List ℕ) (k w : ℕ) (low : k < mostWorkers) (few : w < mostW
 
   module _ (two : List ℕ) (back2 : length two ≡ length (lent-device first w)) where
     abbrev second : List ℕ
-    second = put (device w) (end w - device w) first two
+    second = put (from w) (device-end w - from w) first two
 
     pub both-shares : share second ≡ withStation (withStation (share store) k one) w two
     both-shares =

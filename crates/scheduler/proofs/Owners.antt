@@ -4,15 +4,17 @@ use native.Mathlib.Omega.{arith}
 use mathlib.Core.Path.{_≡_, refl, sym, ap, _∙_}
 use mathlib.Core.Bool.{Bool, true, false}
 use mathlib.Core.List.{List}
-use lib.ListN.{length, getD, drop}
-use lib.Seq.{getD-take, getD-drop}
+use lib.ListN.{getD}
 use Rattle.runs.specs.Searches.{lastBelow, last-zero, last-found, last-passed}
 use Rattle.memory.specs.Codes.{optionCode}
-use Rattle.machine.specs.State.{Setup, forServing, forAdding, Place, idle, trying, registering, looking, draining, serving, handing, leaving, State}
+use Rattle.machine.specs.State.{Setup, State, forServing, forAdding}
+use Rattle.machine.specs.State.{Place, idle, trying, registering, looking, draining, serving, handing, leaving}
 use Rattle.machine.specs.Whereabouts.{lockStand, isOwner, owner}
-use Rattle.steps.specs.Layout.{shareSize, partSize, placeAt, numberAt, mostWorkers, sharesSize, SERVING}
+use Rattle.steps.specs.Layout.{shareSize, placeAt, numberAt, SERVING}
 use Rattle.steps.specs.Codes.{Coded}
 use Rattle.steps.specs.Memory.{share, station, Memory, Holds}
+use Rattle.steps.proofs.Parts.{station-at}
+use Rattle.scheduler.proofs.Lending.{share-at}
 
 -- an owner's places are those from SERVING on
 owns : (k a : ℕ) (p : Place) → Coded k a p → SERVING ≤ k → isOwner (lockStand p) ≡ true
@@ -38,16 +40,10 @@ owns-not k a leaving h l = absurd (omega (arith, h))
 
 -- where the place of a worker lies
 abbrev pub placeIn : ℕ → ℕ
-placeIn w = w * shareSize + partSize + placeAt
+placeIn w = w * shareSize + placeAt
 
-place-of : (store : List ℕ) (w : ℕ) → sharesSize ≤ length store → w < mostWorkers
-    → getD (station (share store w)) placeAt 0 ≡ getD store (placeIn w) 0
-unfolding share
-place-of store w l v =
-    getD-drop partSize (share store w) placeAt 0
-    ∙ getD-take shareSize (drop (w * shareSize) store) (partSize + placeAt) 0 (omega arith)
-    ∙ getD-drop (w * shareSize) store (partSize + placeAt) 0
-    ∙ ap (λ (k : ℕ). getD store k 0) (let e : w * shareSize + (partSize + placeAt) ≡ placeIn w = omega arith in e)
+place-of : (store : List ℕ) (w : ℕ) → getD (station (share store w)) placeAt 0 ≡ getD store (placeIn w) 0
+place-of store w = station-at (share store w) placeAt (omega arith) ∙ share-at store w placeAt (omega arith)
 
 -- how far the search down from the last worker is
 abbrev pub Above : List ℕ → ℕ → ℕ → Type 0
@@ -59,8 +55,7 @@ pub above-all : (store : List ℕ) (workers : ℕ) → Above store workers worke
 unfolding owner
 above-all store workers c m s h e = ap (lastBelow (λ v. isOwner (lockStand (s .place v)))) (sym e)
 
-module _ (store : List ℕ) (workers w : ℕ) (long : sharesSize ≤ length store) (few : workers ≤ mostWorkers)
-    (above : Above store workers w) (pos : 0 < w) (low : w ≤ workers) where
+module _ (store : List ℕ) (workers w : ℕ) (above : Above store workers w) (pos : 0 < w) (low : w ≤ workers) where
   one-more : w ≡ suc (w - 1)
   one-more = omega arith
 
@@ -76,12 +71,12 @@ module _ (store : List ℕ) (workers w : ℕ) (long : sharesSize ≤ length stor
 
     pub owner-here : SERVING ≤ getD store (placeIn (w - 1)) 0 → w ≡ optionCode (owner c s)
     owner-here l =
-        let b = owns _ _ (s .place (w - 1)) coded (omega (arith, place-of store (w - 1) long (omega arith))) in
+        let b = owns _ _ (s .place (w - 1)) coded (omega (arith, place-of store (w - 1))) in
         one-more ∙ sym (ap optionCode (so-far ∙ last-found test (w - 1) b))
 
     pub owner-below : getD store (placeIn (w - 1)) 0 < SERVING → owner c s ≡ lastBelow test (w - 1)
     owner-below l =
-        let b = owns-not _ _ (s .place (w - 1)) coded (omega (arith, place-of store (w - 1) long (omega arith))) in
+        let b = owns-not _ _ (s .place (w - 1)) coded (omega (arith, place-of store (w - 1))) in
         so-far ∙ last-passed test (w - 1) b
 
 pub owner-none : (store : List ℕ) (workers w : ℕ) → w ≡ 0 → Above store workers w

@@ -9,7 +9,8 @@ use Rattle.runs.specs.Update.{same}
 use Rattle.machine.specs.State.{Setup, State, picked}
 use Rattle.machine.specs.Step.{step}
 use Rattle.machine.specs.Ranges.{Fit, acted, acted-step}
-use Rattle.steps.specs.Layout.{partSize, placeAt, numberAt, mostWorkers, IDLE, TRYING, REGISTERING, LOOKING, DRAINING_TO_SERVE, DRAINING_TO_ADD, SERVING, HANDING, LEAVING}
+use Rattle.steps.specs.Layout.{placeAt, numberAt, mostWorkers, IDLE, TRYING, REGISTERING, LOOKING}
+use Rattle.steps.specs.Layout.{SERVING, HANDING, LEAVING, DRAINING_TO_SERVE, DRAINING_TO_ADD}
 use Rattle.steps.specs.Memory.{station, Memory, Long, withCounts, Holds, Able}
 use Rattle.steps.proofs.Parts.{station-at}
 use Rattle.steps.proofs.Acting.{own-stationed}
@@ -73,10 +74,10 @@ drains-there k from to =
 pub drains-not : (k : ℕ) → k < DRAINING_TO_SERVE → (k ≢ DRAINING_TO_SERVE) × (k ≢ DRAINING_TO_ADD)
 drains-not k l = (λ e. omega arith, λ e. omega arith)
 
-pub own-place : {m : Memory} {own : List ℕ} {w : ℕ} → Able m own w → getD own (partSize + placeAt) 0 ≤ DRAINING_TO_ADD
+pub own-place : {m : Memory} {own : List ℕ} {w : ℕ} → Able m own w → getD own placeAt 0 ≤ DRAINING_TO_ADD
 own-place {own = own} {w = w} a =
     let few = place-few (getD (station own) placeAt 0) (getD (station own) numberAt 0) (a .s .place w) (own-stationed a .place) in
-    omega (arith, few, station-at own placeAt)
+    omega (arith, few, station-at own placeAt (omega arith))
 
 past : (k m : ℕ) → m ≤ k → k ≢ m → m + 1 ≤ k
 past k m l d = omega arith

@@ -18,7 +18,7 @@ use Rattle.memory.specs.Rows.{TaskRows, AccessRows}
 use Rattle.memory.specs.Memory.{freshTally}
 use Rattle.memory.specs.Starting as tasks
 use Rattle.machine.specs.State.{Setup, idle, start}
-use Rattle.steps.specs.Layout.{shareSize, partSize, placeAt, queuedAt, queueFrom, queueSlots, mostWorkers, sharesSize, READY}
+use Rattle.steps.specs.Layout.{shareSize, stationSize, placeAt, queuedAt, queueFrom, queueSlots, mostWorkers, sharesSize, READY}
 use Rattle.steps.specs.Memory.{share, part, station, Stationed, Holds}
 use Rattle.steps.specs.declared.Counts.{Counts}
 use Rattle.scheduler.specs.Lent.{memory}
@@ -48,27 +48,24 @@ module _ (store : List ℕ) (long : sharesSize ≤ length store) (zeros : take s
       (λ (l : shareSize ≤ k). List·getD-eq-default (share store w) 0 (omega (arith, share-long)))
       (order k shareSize)
 
-  zero-part : (k : ℕ) → getD (part (share store w)) k 0 ≡ 0
-  zero-part k =
-      ⊎-elim
-      (λ (l : k < partSize). getD-take partSize (share store w) k 0 l ∙ zero-share k)
-      (λ (l : partSize ≤ k). List·getD-eq-default (part (share store w)) 0 (omega (arith, length-take partSize (share store w))))
-      (order k partSize)
-
-  part-long : length (part (share store w)) ≡ layout.part
-  part-long = omega (arith, share-long, length-take partSize (share store w))
-
-  zero-station : (k : ℕ) → getD (station (share store w)) k 0 ≡ 0
-  zero-station k = getD-drop partSize (share store w) k 0 ∙ zero-share (partSize + k)
+  zero-station : (k : ℕ) → k < stationSize → getD (station (share store w)) k 0 ≡ 0
+  zero-station k l = getD-take stationSize (share store w) k 0 l ∙ zero-share k
 
   -- the worker is idle, and its queue is empty
   starts-idle : Stationed (station (share store w)) idle []
   starts-idle =
       record {
-        long = omega (arith, share-long, length-drop partSize (share store w));
-        place = zero-station placeAt;
-        queue = rw (zero-station queuedAt) (entries-none (λ k. getD (station (share store w)) (queueFrom + k) 0) queueSlots 0);
+        long = omega (arith, share-long, length-take stationSize (share store w));
+        place = zero-station placeAt (omega arith);
+        queue = rw (zero-station queuedAt (omega arith))
+            (entries-none (λ k. getD (station (share store w)) (queueFrom + k) 0) queueSlots 0);
       }
+
+  zero-part : (k : ℕ) → getD (part (share store w)) k 0 ≡ 0
+  zero-part k = getD-drop stationSize (share store w) k 0 ∙ zero-share (stationSize + k)
+
+  part-long : length (part (share store w)) ≡ layout.part
+  part-long = omega (arith, share-long, length-drop stationSize (share store w))
 
 module _ (c : Setup) (few : c .workers ≤ mostWorkers) where
   pub starts : (ends : Ends) (wait registrations tickets cells ready rows accesses store : List ℕ)

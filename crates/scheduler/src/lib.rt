@@ -2,12 +2,12 @@
 ghost use mathlib.Core.Path.{_≡_};
 ghost use mathlib.Core.Logic.{_⊎_, _≢_};
 ghost use mathlib.Core.List.{List};
-ghost use Prim.Native.Nat.{ℕ, _+_, _≤_, _<_};
+ghost use Prim.Native.Nat.{ℕ, _≤_, _<_};
 ghost use lib.ListN.{length, getD, drop};
 ghost use Rattle.machine.specs.State.{Setup, State, Purpose, draining, picked};
 ghost use Rattle.machine.specs.Step.{nextDrain, step, finished};
 ghost use Rattle.machine.specs.Ranges.{Fit, acted};
-ghost use Rattle.steps.specs.Layout.{partSize, stationSize, placeAt, mostWorkers, sharesSize, IDLE, DRAINING_TO_SERVE, DRAINING_TO_ADD};
+ghost use Rattle.steps.specs.Layout.{stationSize, placeAt, mostWorkers, sharesSize, IDLE, DRAINING_TO_SERVE, DRAINING_TO_ADD};
 ghost use Rattle.steps.specs.Memory.{share, Stationed, Memory, Long, withTasks, withCounts, Holds, Able, Acts};
 ghost use Rattle.scheduler.specs.Starting.{freshCounts};
 ghost use Rattle.scheduler.specs.Lent.{memory, withReady};
@@ -23,9 +23,9 @@ use lock_steps::wait::try_step;
 use memory::layout::ADDS_COUNT;
 use memory::layout::FREE;
 use memory::layout::MAIL_COUNT;
-use memory::layout::PART;
 use memory::layout::SHARE;
 use memory::layout::STAND;
+use memory::layout::STATION;
 use steps::Counts;
 use steps::create_step;
 use steps::full_step;
@@ -66,15 +66,15 @@ pub fn fresh(ends: Ends, workers: u64, tasks: u64) -> Counts
 // Out of the lock: a duty to the tasks before adding, adding before creating or taking a ticket.
 fn idle_step(n: Counts, rows: &mut [u64], accesses: &mut [u64], own: &mut [u64], w: u64) -> Counts
     requires { ⌜ ((m : Memory) × Able (withTasks m n (now rows) (now accesses)) (now own) w)
-        × (getD (now own) (partSize + placeAt) 0 ≡ IDLE) ⌝ }
+        × (getD (now own) placeAt 0 ≡ IDLE) ⌝ }
     ensures { λ r. ⌜ ((m : Memory) → Acts (withTasks m n (now (rows .entry)) (now (accesses .entry))) (now (own .entry))
         (withTasks m r (now (rows .exit)) (now (accesses .exit))) (now (own .exit)) w) ⌝ }
 {
-    if FREE < own[STAND] || 0 < own[MAIL_COUNT] {
+    if FREE < own[STATION + STAND] || 0 < own[STATION + MAIL_COUNT] {
         return mind_step(n, rows, accesses, own, w);
     }
-    if 0 < own[ADDS_COUNT] {
-        if own[PART + QUEUED] < CAPACITY {
+    if 0 < own[STATION + ADDS_COUNT] {
+        if own[QUEUED] < CAPACITY {
             return push_step(n, own, w);
         }
         return full_step(n, own, w);
@@ -102,14 +102,14 @@ fn step_own(
 ) -> Counts
     requires { ⌜ Able (memory n (now wait) (now registrations) (now tickets) (now cells) (now ready) (now rows) (now accesses))
         (now own) w ⌝ }
-    requires { ⌜ (getD (now own) (partSize + placeAt) 0 ≢ DRAINING_TO_SERVE) × (getD (now own) (partSize + placeAt) 0 ≢ DRAINING_TO_ADD) ⌝ }
+    requires { ⌜ (getD (now own) placeAt 0 ≢ DRAINING_TO_SERVE) × (getD (now own) placeAt 0 ≢ DRAINING_TO_ADD) ⌝ }
     ensures { λ r. ⌜ Acts
         (memory n (now (wait .entry)) (now (registrations .entry)) (now (tickets .entry)) (now (cells .entry))
         (now (ready .entry)) (now (rows .entry)) (now (accesses .entry))) (now (own .entry))
         (memory r (now (wait .exit)) (now (registrations .exit)) (now (tickets .exit)) (now (cells .exit))
         (now (ready .entry)) (now (rows .exit)) (now (accesses .exit))) (now (own .exit)) w ⌝ }
 {
-    let place = own[PART + PLACE];
+    let place = own[PLACE];
     match place {
         IDLE => idle_step(n, rows, accesses, own, w),
         TRYING => try_step(n, own, w),
@@ -146,8 +146,8 @@ fn drained(own: &mut [u64], k: u64, workers: u64)
 // Drains a queue into the ready list: the device's part of its worker is lent, then that of worker w.
 fn drain_step(n: Counts, ready: &mut [u64], store: &mut [u64], w: usize) -> Counts
     requires { ⌜ (sharesSize ≤ length (now store)) × (w < mostWorkers)
-        × ((getD (share (now store) w) (partSize + placeAt) 0 ≡ DRAINING_TO_SERVE)
-        ⊎ (getD (share (now store) w) (partSize + placeAt) 0 ≡ DRAINING_TO_ADD)) ⌝ }
+        × ((getD (share (now store) w) placeAt 0 ≡ DRAINING_TO_SERVE)
+        ⊎ (getD (share (now store) w) placeAt 0 ≡ DRAINING_TO_ADD)) ⌝ }
     requires { ⌜ ((m : Memory) × (c : Setup) × (s : State) × Long (withReady m n (now ready))
         × Holds c (withReady m n (now ready)) (share (now store)) s × Fit c s w) ⌝ }
     ensures held { λ r. ⌜ ((m : Memory) (c : Setup) (s : State) →
@@ -155,11 +155,11 @@ fn drain_step(n: Counts, ready: &mut [u64], store: &mut [u64], w: usize) -> Coun
         Holds c (withReady m r (now (ready .exit))) (share (now (store .exit))) (acted c s w)) ⌝ }
     ensures later { λ _. ⌜ drop sharesSize (now (store .exit)) ≡ drop sharesSize (now (store .entry)) ⌝ }
 {
-    let at = w * SHARE + PART;
-    let end = w * SHARE + SHARE;
+    let at = w * SHARE;
+    let end = w * SHARE + STATION;
     let k = store[at + NUMBER];
-    let from = k as usize * SHARE + PART;
-    let to = k as usize * SHARE + SHARE;
+    let from = k as usize * SHARE;
+    let to = k as usize * SHARE + STATION;
     let mut r = n;
     r.ready = drain(&mut store[from..to], ready, n.ready_at, n.ready);
     drained(&mut store[at..end], k, n.workers);
@@ -197,7 +197,7 @@ pub fn pick(
     r.picks = n.picks + 1;
     let at = w * SHARE;
     let end = at + SHARE;
-    let place = store[at + PART + PLACE];
+    let place = store[at + PLACE];
     if DRAINING_TO_SERVE <= place {
         return drain_step(r, ready, store, w);
     }

@@ -7,7 +7,6 @@ ghost use Rattle.machine.specs.State.{Setup, State};
 ghost use Rattle.machine.specs.Whereabouts.{owner};
 ghost use Rattle.steps.specs.Layout.{sharesSize, mostWorkers};
 ghost use Rattle.steps.specs.Memory.{share, Memory, Holds};
-use memory::layout::PART;
 use memory::layout::SHARE;
 use steps::layout::PLACE;
 use steps::layout::SERVING;
@@ -20,7 +19,7 @@ pub fn find_owner(store: &[u64], workers: u64) -> u64
 {
     let mut w = workers;
     while 0 < w {
-        let at = (w - 1) as usize * SHARE + PART + PLACE;
+        let at = (w - 1) as usize * SHARE + PLACE;
         let place = store[at];
         if SERVING <= place {
             return w;

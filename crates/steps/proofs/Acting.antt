@@ -16,7 +16,7 @@ use Rattle.machine.specs.State.{Setup, State}
 use Rattle.machine.specs.Event.{Event, event}
 use Rattle.machine.specs.Step.{lockOp, taskOp, effect, lockAfter}
 use Rattle.machine.specs.Ranges.{Fit, acted}
-use Rattle.steps.specs.Layout.{shareSize, partSize, READY}
+use Rattle.steps.specs.Layout.{shareSize, stationSize, READY}
 use Rattle.steps.specs.Memory.{part, station, Stationed, Memory, Holds, Able}
 use Rattle.steps.proofs.Parts.{parts-upd}
 
@@ -75,15 +75,16 @@ tasks-fit fit =
     }
 
 module _ {m : Memory} {own : List ℕ} {w : ℕ} (a : Able m own w) where
-  abbrev pub tasks-able : T.Able (T.memory (m .counts .tally) (m .rows) (m .accesses)) (part own) w
-  tasks-able =
+  -- for the tasks, their part of the share being lent
+  abbrev pub tasks-able : {lent : List ℕ} → part own ≡ lent → T.Able (T.memory (m .counts .tally) (m .rows) (m .accesses)) lent w
+  tasks-able is =
       record {
         W = a .c .workers;
         ts = a .c .tasks;
         t = a .s .tasks;
         st = a .s .stand;
         parts = λ v. part (a .shares v);
-        lent = ap part (a .lent);
+        lent = ap part (a .lent) ∙ is;
         long = a .long .tasks;
         holds = a .holds .tasks;
         fit = tasks-fit (a .fit);
@@ -96,4 +97,4 @@ module _ {m : Memory} {own : List ℕ} {w : ℕ} (a : Able m own w) where
   own-stationed = rw (a .lent) at (a .holds .device .stationed w (a .fit .worker))
 
   pub own-long : length own ≡ shareSize
-  own-long = omega (arith, own-stored .long, own-stationed .long, length-take partSize own, length-drop partSize own)
+  own-long = omega (arith, own-stored .long, own-stationed .long, length-take stationSize own, length-drop stationSize own)

@@ -1,60 +1,54 @@
 -- The two parts of a share, lent and given back.
 use Prim.Native.Nat.{ℕ, _+_, _<_}
 use native.Mathlib.Omega.{arith}
-use mathlib.Core.Path.{_≡_, ap, _∙_}
+use mathlib.Core.Path.{_≡_, sym, _∙_}
 use mathlib.Core.List.{List, [], _++_, append-nil}
-use lib.ListN.{length, getD, take, drop, length-append, length-take, length-drop, take-append-drop}
-use lib.Seq.{take-at, drop-at, getD-take, getD-drop}
+use lib.ListN.{length, getD, take, drop, length-take, length-drop, drop-of-length-le}
+use lib.Seq.{take-all, take-at, drop-at, getD-take, getD-drop}
 use Rattle.runs.specs.Update.{upd, map-upd}
-use Rattle.steps.specs.Layout.{shareSize, partSize, stationSize}
-use Rattle.steps.specs.Memory.{part, station}
+use Rattle.steps.specs.Layout.{shareSize, stationSize, partSize}
+use Rattle.steps.specs.Memory.{station, part}
 
-pub part-at : (own : List ℕ) (k : ℕ) → k < partSize → getD (part own) k 0 ≡ getD own k 0
-part-at own k l = getD-take partSize own k 0 l
+pub station-at : (own : List ℕ) (k : ℕ) → k < stationSize → getD (station own) k 0 ≡ getD own k 0
+station-at own k l = getD-take stationSize own k 0 l
 
-pub station-at : (own : List ℕ) (k : ℕ) → getD (station own) k 0 ≡ getD own (partSize + k) 0
-station-at own k = getD-drop partSize own k 0
+pub part-at : (own : List ℕ) (k : ℕ) → getD (part own) k 0 ≡ getD own (stationSize + k) 0
+part-at own k = getD-drop stationSize own k 0
 
 -- a share made of two parts
-module _ (y z : List ℕ) (long : length y ≡ partSize) where
-  pub part-of : part (y ++ z) ≡ y
-  part-of = take-at y z partSize long
+module _ (z y : List ℕ) (long : length z ≡ stationSize) where
+  pub station-of : station (z ++ y) ≡ z
+  station-of = take-at z y stationSize long
 
-  pub station-of : station (y ++ z) ≡ z
-  station-of = drop-at y z partSize long
-
-pub parts-whole : (own : List ℕ) → part own ++ station own ≡ own
-parts-whole own = take-append-drop partSize own
+  pub part-of : part (z ++ y) ≡ y
+  part-of = drop-at z y stationSize long
 
 -- the tasks' parts of all shares
 pub parts-upd : (shares : ℕ → List ℕ) (w : ℕ) (next : List ℕ)
     → _≡_ {A = ℕ → List ℕ} (λ v. part (upd shares w next v)) (upd (λ v. part (shares v)) w (part next))
 parts-upd shares w next = map-upd part shares w next
 
--- the device's part, lent behind a part y, and given back as z
-module _ (y r : List ℕ) (first : length y ≡ partSize) (second : length r ≡ stationSize) where
-  pub mid-lent : take stationSize (drop partSize (y ++ r)) ≡ r
-  mid-lent = ap (take stationSize) (drop-at y r partSize first) ∙ rw append-nil at (take-at r [] stationSize second)
+-- the tasks' part as it is lent, and the share once that is back as y; the device's part is lent as it stands
+abbrev pub lentPart : List ℕ → List ℕ
+lentPart own = take partSize (drop stationSize own)
 
-  pub mid-back : (z : List ℕ) → take partSize (y ++ r) ++ (z ++ drop stationSize (drop partSize (y ++ r))) ≡ y ++ z
-  mid-back z =
-      let past : drop stationSize r ≡ [] = rw append-nil at (drop-at r [] stationSize second) in
-      let none : drop stationSize (drop partSize (y ++ r)) ≡ [] = ap (drop stationSize) (drop-at y r partSize first) ∙ past in
-      rw (none, take-at y r partSize first, append-nil)
+abbrev pub withPart : List ℕ → List ℕ → List ℕ
+withPart own y = take stationSize own ++ (y ++ drop partSize (drop stationSize own))
 
-  pub mid-long : length (y ++ r) ≡ shareSize
-  mid-long = omega (arith, length-append y r, first, second)
-
--- the device's part of a whole share
 module _ (own : List ℕ) (long : length own ≡ shareSize) where
-  pub part-long : length (part own) ≡ partSize
-  part-long = omega (arith, length-take partSize own, long)
-
   pub station-long : length (station own) ≡ stationSize
-  station-long = omega (arith, length-drop partSize own, long)
+  station-long = omega (arith, length-take stationSize own, long)
 
-  pub station-lent : take stationSize (drop partSize own) ≡ station own
-  station-lent = rw (parts-whole own) at (mid-lent (part own) (station own) part-long station-long)
+  part-long : length (part own) ≡ partSize
+  part-long = omega (arith, length-drop stationSize own, long)
 
-  pub station-back : (z : List ℕ) → take partSize own ++ (z ++ drop stationSize (drop partSize own)) ≡ part own ++ z
-  station-back z = rw (parts-whole own) at (mid-back (part own) (station own) part-long station-long z)
+  pub part-lent : part own ≡ lentPart own
+  part-lent = sym (take-all partSize (part own) (omega (arith, part-long)))
+
+  pub part-back : (y : List ℕ) → part (withPart own y) ≡ y
+  part-back y =
+      let past : drop partSize (part own) ≡ [] = drop-of-length-le (part own) {i = partSize} (omega (arith, part-long)) in
+      part-of (station own) (y ++ drop partSize (part own)) station-long ∙ rw (past, append-nil)
+
+  pub station-still : (y : List ℕ) → station (withPart own y) ≡ station own
+  station-still y = station-of (station own) (y ++ drop partSize (part own)) station-long

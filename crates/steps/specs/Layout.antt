@@ -1,16 +1,16 @@
 -- Where the device's numbers lie: the names of offsets and codes. `src/layout.rt` has the same.
-use Prim.Native.Nat.{ℕ, _*_, _-_}
+use Prim.Native.Nat.{ℕ, _*_}
 use Rattle.memory.specs.Layout as layout
 
--- a worker's share: the tasks' part, then the device's
+-- a worker's share: the device's part, then the tasks'
 abbrev pub shareSize : ℕ
 shareSize = layout.share
 
+abbrev pub stationSize : ℕ
+stationSize = layout.station
+
 abbrev pub partSize : ℕ
 partSize = layout.part
-
-abbrev pub stationSize : ℕ
-stationSize = shareSize - partSize
 
 -- the device's part: the place, what it speaks of, how many are queued; the queue's slots
 abbrev pub placeAt : ℕ

@@ -11,7 +11,7 @@ use Rattle.memory.specs.Memory as T
 use Rattle.memory.specs.declared.tally.Tally.{Tally}
 use Rattle.machine.specs.State.{Setup, Place, State}
 use Rattle.machine.specs.Ranges.{Fit, acted}
-use Rattle.steps.specs.Layout.{shareSize, partSize, stationSize, placeAt, numberAt, queuedAt, queueFrom, queueSlots, mostWorkers, SLOTS, READY}
+use Rattle.steps.specs.Layout.{shareSize, stationSize, placeAt, numberAt, queuedAt, queueFrom, queueSlots, mostWorkers, SLOTS, READY}
 use Rattle.steps.specs.Codes.{Coded}
 use Rattle.steps.specs.declared.Counts.{Counts}
 
@@ -19,12 +19,12 @@ use Rattle.steps.specs.declared.Counts.{Counts}
 unfoldable pub share : List ℕ → ℕ → List ℕ
 share store w = take shareSize (drop (w * shareSize) store)
 
--- the tasks' part of a share, and the device's
-abbrev pub part : List ℕ → List ℕ
-part own = take partSize own
-
+-- the device's part of a share, and the tasks'
 abbrev pub station : List ℕ → List ℕ
-station own = drop partSize own
+station own = take stationSize own
+
+abbrev pub part : List ℕ → List ℕ
+part own = drop stationSize own
 
 pub record Stationed (own : List ℕ) (p : Place) (q : List ℕ) : Type 0 where
   pub long : length own ≡ stationSize

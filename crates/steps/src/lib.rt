@@ -6,15 +6,15 @@ ghost use Prim.Native.Nat.{_+_, _≤_, _<_};
 ghost use lib.ListN.{getD};
 ghost use Rattle.memory.specs.Layout as part;
 ghost use Rattle.memory.specs.Memory.{toCreate};
-ghost use Rattle.steps.specs.Layout.{partSize, placeAt, queuedAt, IDLE, CAPACITY};
+ghost use Rattle.steps.specs.Layout.{stationSize, placeAt, queuedAt, IDLE, CAPACITY};
 ghost use Rattle.steps.specs.Memory.{Memory, withTasks, withCounts, withEnds, Able, Acts};
 use duties::create::create;
 use duties::device::give;
 use duties::mind::mind;
 use layout::TRYING;
 use lock::Ends;
-use memory::layout::PART;
 use memory::layout::SHARE;
+use memory::layout::STATION;
 use memory::tally::Tally;
 use station::go;
 use station::push;
@@ -50,14 +50,14 @@ pub fn mind_step(
     w: u64,
 ) -> Counts
     requires { ⌜ ((m : Memory) × Able (withTasks m n (now rows) (now accesses)) (now own) w)
-        × (getD (now own) (partSize + placeAt) 0 ≡ IDLE)
-        × ((part.free < getD (now own) part.stand 0) ⊎ (0 < getD (now own) part.mailCount 0)) ⌝ }
+        × (getD (now own) placeAt 0 ≡ IDLE)
+        × ((part.free < getD (now own) (stationSize + part.stand) 0) ⊎ (0 < getD (now own) (stationSize + part.mailCount) 0)) ⌝ }
     ensures { λ r. ⌜ ((m : Memory) → Acts (withTasks m n (now (rows .entry)) (now (accesses .entry))) (now (own .entry))
         (withTasks m r (now (rows .exit)) (now (accesses .exit))) (now (own .exit)) w) ⌝ }
 {
     let tally = n.tally;
     let time = n.picks;
-    let next = mind(tally, rows, accesses, &mut own[..PART], time);
+    let next = mind(tally, rows, accesses, &mut own[STATION..SHARE], time);
     let mut r = n;
     r.tally = next;
     r
@@ -66,14 +66,14 @@ pub fn mind_step(
 // Worker 0 creates the tasks.
 pub fn create_step(n: Counts, rows: &mut [u64], accesses: &[u64], own: &mut [u64]) -> Counts
     requires { ⌜ ((m : Memory) × Able (withTasks m n (now rows) (now accesses)) (now own) 0)
-        × (getD (now own) (partSize + placeAt) 0 ≡ IDLE)
-        × (getD (now own) part.stand 0 ≡ part.free) × (getD (now own) part.mailCount 0 ≡ 0) × (getD (now own) part.addsCount 0 ≡ 0)
-        × (toCreate (n .tally) ≡ true) ⌝ }
+        × (getD (now own) placeAt 0 ≡ IDLE)
+        × (getD (now own) (stationSize + part.stand) 0 ≡ part.free) × (getD (now own) (stationSize + part.mailCount) 0 ≡ 0)
+        × (getD (now own) (stationSize + part.addsCount) 0 ≡ 0) × (toCreate (n .tally) ≡ true) ⌝ }
     ensures { λ r. ⌜ ((m : Memory) → Acts (withTasks m n (now (rows .entry)) (now (accesses .entry))) (now (own .entry))
         (withTasks m r (now (rows .exit)) (now (accesses .entry))) (now (own .exit)) 0) ⌝ }
 {
     let tally = n.tally;
-    let next = create(tally, rows, accesses, &mut own[..PART]);
+    let next = create(tally, rows, accesses, &mut own[STATION..SHARE]);
     let mut r = n;
     r.tally = next;
     r
@@ -82,23 +82,23 @@ pub fn create_step(n: Counts, rows: &mut [u64], accesses: &[u64], own: &mut [u64
 // Gives the oldest task to add to the device, in whose queue there is room. The numbers stay: they are handed back so that they
 // stay in registers.
 pub fn push_step(n: Counts, own: &mut [u64], w: u64) -> Counts
-    requires { ⌜ ((m : Memory) × Able (withCounts m n) (now own) w) × (getD (now own) (partSize + placeAt) 0 ≡ IDLE)
-        × (getD (now own) part.stand 0 ≡ part.free) × (getD (now own) part.mailCount 0 ≡ 0) × (0 < getD (now own) part.addsCount 0)
-        × (getD (now own) (partSize + queuedAt) 0 < CAPACITY) ⌝ }
+    requires { ⌜ ((m : Memory) × Able (withCounts m n) (now own) w) × (getD (now own) placeAt 0 ≡ IDLE)
+        × (getD (now own) (stationSize + part.stand) 0 ≡ part.free) × (getD (now own) (stationSize + part.mailCount) 0 ≡ 0)
+        × (0 < getD (now own) (stationSize + part.addsCount) 0) × (getD (now own) queuedAt 0 < CAPACITY) ⌝ }
     ensures { λ r. ⌜ ((m : Memory) → Acts (withCounts m n) (now (own .entry)) (withCounts m r) (now (own .exit)) w) ⌝ }
 {
-    let task = give(&mut own[..PART]);
-    push(&mut own[PART..SHARE], task);
+    let task = give(&mut own[STATION..SHARE]);
+    push(&mut own[..STATION], task);
     n
 }
 
 // There is no room in the queue: the worker will try the lock. The numbers stay.
 pub fn full_step(n: Counts, own: &mut [u64], w: u64) -> Counts
-    requires { ⌜ ((m : Memory) × Able (withCounts m n) (now own) w) × (getD (now own) (partSize + placeAt) 0 ≡ IDLE)
-        × (getD (now own) part.stand 0 ≡ part.free) × (getD (now own) part.mailCount 0 ≡ 0) × (0 < getD (now own) part.addsCount 0)
-        × (CAPACITY ≤ getD (now own) (partSize + queuedAt) 0) ⌝ }
+    requires { ⌜ ((m : Memory) × Able (withCounts m n) (now own) w) × (getD (now own) placeAt 0 ≡ IDLE)
+        × (getD (now own) (stationSize + part.stand) 0 ≡ part.free) × (getD (now own) (stationSize + part.mailCount) 0 ≡ 0)
+        × (0 < getD (now own) (stationSize + part.addsCount) 0) × (CAPACITY ≤ getD (now own) queuedAt 0) ⌝ }
     ensures { λ r. ⌜ ((m : Memory) → Acts (withCounts m n) (now (own .entry)) (withCounts m r) (now (own .exit)) w) ⌝ }
 {
-    go(&mut own[PART..SHARE], TRYING, 0);
+    go(&mut own[..STATION], TRYING, 0);
     n
 }

@@ -4,10 +4,10 @@ use native.Mathlib.Omega.{arith}
 use mathlib.Core.Path.{_≡_, ap, _∙_}
 use mathlib.Core.List.{List}
 use lib.ListN.{length, getD}
-use Rattle.steps.specs.Layout.{shareSize, partSize, numberAt, mostWorkers}
+use Rattle.steps.specs.Layout.{shareSize, numberAt, mostWorkers}
 use Rattle.steps.specs.Memory.{share}
 use Rattle.steps.proofs.Parts.{station-long}
-use Rattle.scheduler.proofs.Lending.{station-number, share-length, station-lent, second-lent, both-shares, both-later}
+use Rattle.scheduler.proofs.Lending.{share-at, share-length, station-lent, second-lent, both-shares, both-later}
 use Rattle.scheduler.proofs.Draining.{drained-below, drained-known, drained-few, drained-room}
 use Rattle.scheduler.proofs.Draining.{emptied-stations, emptied-long, drain-acts}
 use borrow.Author.Needs.{needs}
@@ -16,10 +16,10 @@ use Rattle.scheduler.proofs.drain_step.Tie as tie
 
 -- the worker whose queue is drained
 abbrev drains : tie.Start → ℕ
-drains s = getD (s .args .store .now) (s .args .w * shareSize + partSize + numberAt) 0
+drains s = getD (s .args .store .now) (s .args .w * shareSize + numberAt) 0
 
-drains-is : (s : tie.Start) → getD (share (s .args .store .now) (s .args .w)) (partSize + numberAt) 0 ≡ drains s
-drains-is s = station-number (s .args .store .now) (s .args .w) numberAt (omega arith)
+drains-is : (s : tie.Start) → getD (share (s .args .store .now) (s .args .w)) numberAt 0 ≡ drains s
+drains-is s = share-at (s .args .store .now) (s .args .w) numberAt (omega arith)
 
 below : (s : tie.Start) → drains s < mostWorkers
 below s =
@@ -28,9 +28,6 @@ below s =
 
 mul-at : tie.Need-mul-at
 mul-at c = search needs
-
-add-at : tie.Need-add-at
-add-at c = search needs
 
 mul-end : tie.Need-mul-end
 mul-end c = search needs
@@ -49,9 +46,6 @@ slice-read-k c = search needs
 
 mul-from : tie.Need-mul-from
 mul-from c = omega (arith, below (c .before .before .before), c .before .before .before .pre .0)
-
-add-from : tie.Need-add-from
-add-from c = omega (arith, below (c .before .before .before), c .before .before .before .pre .0)
 
 mul-to : tie.Need-mul-to
 mul-to c = omega (arith, below (c .before .before .before), c .before .before .before .pre .0)
@@ -147,14 +141,12 @@ drain-step-spec =
     tie.close
     (tie.spec
     mul-at
-    add-at
     mul-end
     add-end
     add-k
     mul-k
     slice-read-k
     mul-from
-    add-from
     mul-to
     add-to
     mul-drain

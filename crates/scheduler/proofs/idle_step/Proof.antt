@@ -22,8 +22,20 @@ given s = given-in (s .pre .0 .0) s
 none-of : (k : ℕ) → ltb 0 k ≡ false → k ≡ 0
 none-of k e = omega (arith, ltb-false 0 k e)
 
+add-if1 : tie.Need-add-if1
+add-if1 c = search needs
+
+mul-if1 : tie.Need-mul-if1
+mul-if1 c = search needs
+
 slice-read-if1 : tie.Need-slice-read-if1
 slice-read-if1 c = omega (arith, own-long (c .before .before .before .before .pre .0 .1))
+
+add-if2 : tie.Need-add-if2
+add-if2 c = search needs
+
+mul-if2 : tie.Need-mul-if2
+mul-if2 c = search needs
 
 slice-read-if2 : tie.Need-slice-read-if2
 slice-read-if2 c = omega (arith, own-long (c .before .before .before .before .before .before .pre .0 .1))
@@ -46,14 +58,14 @@ same-length-3 c = search needs
 returns : tie.Need-returns
 returns c = search needs
 
+add-if3 : tie.Need-add-if3
+add-if3 c = search needs
+
+mul-if3 : tie.Need-mul-if3
+mul-if3 c = search needs
+
 slice-read-if3 : tie.Need-slice-read-if3
 slice-read-if3 c = omega (arith, own-long (c .before .before .before .before .before .before .before .before .pre .0 .1))
-
-add-if4 : tie.Need-add-if4
-add-if4 c = search needs
-
-mul-if4 : tie.Need-mul-if4
-mul-if4 c = search needs
 
 slice-read-if4 : tie.Need-slice-read-if4
 slice-read-if4 c = omega (arith, own-long (c .before .before .before .before .before .before .before .before .before .before .pre .0 .1))
@@ -169,16 +181,20 @@ pub idle-step-spec : {M : Type 1} → statement M
 idle-step-spec =
     tie.close
     (tie.spec
+    add-if1
+    mul-if1
     slice-read-if1
+    add-if2
+    mul-if2
     slice-read-if2
     mind-step-requires
     same-length
     same-length-2
     same-length-3
     returns
+    add-if3
+    mul-if3
     slice-read-if3
-    add-if4
-    mul-if4
     slice-read-if4
     push-step-requires
     same-length-4

@@ -7,8 +7,9 @@ use Rattle.machine.specs.State.{picked}
 use Rattle.steps.specs.Layout.{placeAt}
 use Rattle.steps.specs.Memory.{share, Memory, withCounts, Able}
 use Rattle.scheduler.specs.Lent.{memory}
-use Rattle.scheduler.proofs.Lending.{station-number, share-lent, returned-shares, returned-later}
-use Rattle.scheduler.proofs.Picking.{workers-few, counted, own-place, drains-there, drains-not, counted-long, counted-holds, acted-holds}
+use Rattle.scheduler.proofs.Lending.{share-at, share-lent, returned-shares, returned-later}
+use Rattle.scheduler.proofs.Picking.{workers-few, own-place, drains-there, drains-not}
+use Rattle.scheduler.proofs.Picking.{counted, counted-long, counted-holds, acted-holds}
 use borrow.Author.Needs.{needs}
 use Rattle.scheduler.proofs.pick.Statement.{statement}
 use Rattle.scheduler.proofs.pick.Tie as tie
@@ -46,9 +47,6 @@ add-end c = search needs
 add-place : tie.Need-add-place
 add-place c = search needs
 
-add-place-2 : tie.Need-add-place-2
-add-place-2 c = search needs
-
 mul-place : tie.Need-mul-place
 mul-place c = search needs
 
@@ -61,7 +59,7 @@ drain-step-requires c κs =
     let s = here .before .before .before .before .before .before .before .before .before .before .before in
     let x = s .args in
     let (setup, state, long, holds, fit) = s .pre .1 in
-    let place = station-number (x .store .now) (x .w) placeAt (omega arith) in
+    let place = share-at (x .store .now) (x .w) placeAt (omega arith) in
     let few = rw place at (own-place (counted-able s refl)) in (
       (s .pre .0, workers-few fit, rw place (drains-there _ (here .if1 .taken) few)),
       (given s, setup, picked state, counted-long long, counted-holds holds, fit),
@@ -100,7 +98,7 @@ step-own-requires c κs =
     let store = s .args .store .now in
     let w = s .args .w in
     let lent = share-lent store w (workers-few fit) (s .pre .0) in
-    (counted-able s (sym lent), rw (lent, station-number store w placeAt (omega arith)) (drains-not _ (here .if1 .left)))
+    (counted-able s (sym lent), rw (lent, share-at store w placeAt (omega arith)) (drains-not _ (here .if1 .left)))
 
 same-length-3 : tie.Need-same-length-3
 same-length-3 c = search needs
@@ -153,7 +151,6 @@ pick-spec =
     mul-at
     add-end
     add-place
-    add-place-2
     mul-place
     slice-read-place
     drain-step-requires

@@ -1,8 +1,7 @@
 -- `step_own` meets its contract.
-use Prim.Native.Nat.{_+_}
 use native.Mathlib.Omega.{arith}
 use lib.ListN.{getD}
-use Rattle.steps.specs.Layout.{partSize, placeAt}
+use Rattle.steps.specs.Layout.{placeAt}
 use Rattle.steps.specs.Memory.{Memory}
 use Rattle.steps.proofs.Acting.{own-long}
 use Rattle.scheduler.specs.Lent.{memory}
@@ -16,12 +15,6 @@ abbrev given : tie.Start → Memory
 given s =
     let x = s .args in
     memory (x .n) (x .wait .now) (x .registrations .now) (x .tickets .now) (x .cells .now) (x .ready .now) (x .rows .now) (x .accesses .now)
-
-add-place : tie.Need-add-place
-add-place c = search needs
-
-mul-place : tie.Need-mul-place
-mul-place c = search needs
 
 slice-read-place : tie.Need-slice-read-place
 slice-read-place c = omega (arith, own-long (c .before .before .before .before .before .before .before .before .before .pre .0))
@@ -68,7 +61,7 @@ leave-step-requires c κs =
     let s = c .before .before .before .before .before .before .before .before .before .before .before .before in
     let own = s .args .own .now in (
       (given s, s .pre .0),
-      leaves-at (getD own (partSize + placeAt) 0) (own-place (s .pre .0))
+      leaves-at (getD own placeAt 0) (own-place (s .pre .0))
           (m .rest .0 .0 .0 .0 .0 .1)
           (m .rest .0 .0 .0 .0 .1)
           (m .rest .0 .0 .0 .1)
@@ -185,8 +178,6 @@ pub step-own-spec : {M : Type 1} → statement M
 step-own-spec =
     tie.close
     (tie.spec
-    add-place
-    mul-place
     slice-read-place
     idle-step-requires
     try-step-requires

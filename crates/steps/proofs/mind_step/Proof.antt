@@ -1,27 +1,30 @@
 -- `mind_step` meets its contract.
 use native.Mathlib.Omega.{arith}
-use mathlib.Core.Path.{sym, _∙_}
 use Rattle.memory.specs.Layout as numbers
 use Rattle.steps.specs.Memory.{withTasks, Able}
-use Rattle.steps.proofs.Parts.{part-at}
-use Rattle.steps.proofs.Acting.{own-stored, own-long, tasks-able}
+use Rattle.steps.proofs.Parts.{part-at, part-lent}
+use Rattle.steps.proofs.Acting.{own-long, tasks-able}
 use Rattle.steps.proofs.Stepping.{mind-acts}
 use borrow.Author.Needs.{needs}
 use Rattle.steps.proofs.mind_step.Statement.{statement}
 use Rattle.steps.proofs.mind_step.Tie as tie
 
-slice-relend-prefix-mind : tie.Need-slice-relend-prefix-mind
-slice-relend-prefix-mind c = omega (arith, own-long (c .before .before .before .before .before .before .pre .0 .1))
+sub-mind : tie.Need-sub-mind
+sub-mind c = search needs
 
-slice-aggregate-mind : tie.Need-slice-aggregate-mind
-slice-aggregate-mind c = sym (own-stored (c .before .before .before .before .before .before .before .pre .0 .1) .long)
+part-mind-start : tie.Need-part-mind-start
+part-mind-start c = search needs
+
+part-mind-end : tie.Need-part-mind-end
+part-mind-end c = omega (arith, own-long (c .before .before .before .before .before .before .pre .0 .1))
 
 mind-requires : tie.Need-mind-requires
 mind-requires c κs =
     let s = c .before .before .before .before .before .before .before in
     let ((m, a), at, has) = s .pre in
     let own = s .args .own .now in
-    ((s .args .w, tasks-able a), rw (part-at own numbers.stand (omega arith), part-at own numbers.mailCount (omega arith)) has)
+    let lent = part-lent own (own-long a) in
+    ((s .args .w, tasks-able a lent), rw (← lent, part-at own numbers.stand, part-at own numbers.mailCount) has)
 
 same-length : tie.Need-same-length
 same-length c = search needs
@@ -40,15 +43,15 @@ returns c m setup s shares lent long h fit =
     let a : Able (withTasks m (x .n) (x .rows .now) (x .accesses .now)) (x .own .now) (x .w) =
     record { c = setup; s = s; shares = shares; lent = lent; long = long; holds = h; fit = fit } in
     let (_, at, has) = start .pre in
-    let long-part = done .mind .kept .1 .1 .1 .0 ∙ own-stored a .long in
-    mind-acts a at has _ _ _ _ long-part (done .mind .ensures (x .w))
+    mind-acts a at has _ _ _ _ (done .mind .ensures (x .w))
 
 pub mind-step-spec : {M : Type 1} → statement M
 mind-step-spec =
     tie.close
     (tie.spec
-    slice-relend-prefix-mind
-    slice-aggregate-mind
+    sub-mind
+    part-mind-start
+    part-mind-end
     mind-requires
     same-length
     same-length-2

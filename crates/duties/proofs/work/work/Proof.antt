@@ -1,15 +1,13 @@
 -- `work::work` meets its contract.
 use Prim.Native.Nat.{suc, _-_}
 use native.Mathlib.Omega.{arith}
-use mathlib.Core.Path.{_≡_, refl, ap, _∙_}
+use mathlib.Core.Path.{_≡_, ap, _∙_}
 use lib.ListN.{length, getD}
 use Rattle.tasks.specs.Tasks.{working}
 use Rattle.memory.specs.Layout as layout
 use Rattle.duties.proofs.Held.{own-stored}
 use Rattle.duties.proofs.Working.{at-work, works-holds}
 use borrow.Author.Needs.{needs}
-use Rattle.duties.proofs.work.end.Reads as end-reads
-use Rattle.memory.proofs.share.stand.Reads as stand-reads
 use Rattle.duties.proofs.work.work.Statement.{statement}
 use Rattle.duties.proofs.work.work.Tie as tie
 
@@ -31,28 +29,25 @@ same-length-2 c = search needs
 returns : tie.Need-returns
 returns c = search needs
 
-slice-read-task : tie.Need-slice-read-task
-slice-read-task c = omega (arith, facts (c .before .before .before .before .before))
+sub-worked : tie.Need-sub-worked
+sub-worked c = search needs
 
-sub-stand : tie.Need-sub-stand
-sub-stand c = search needs
-
-stand-requires : tie.Need-stand-requires
-stand-requires c κs = facts (c .before .before .before .before .before .before)
+worked-requires : tie.Need-worked-requires
+worked-requires c κs = facts (c .before .before .before .before .before)
 
 same-length-3 : tie.Need-same-length-3
 same-length-3 c = search needs
 
 returns-2 : tie.Need-returns-2
 returns-2 c m w a op is =
-    let start = c .before .before .before .before .before .before .before .before .before in
+    let start = c .before .before .before .before .before .before .before .before in
     let x = start .args in
     let i = getD (x .own .now) layout.about 0 in
     let steps = getD (x .own .now) layout.left 0 in
-    let some : steps ≡ suc (steps - 1) = omega (arith, c .before .before .before .before .before .if1) in
-    let stands = c .before .before .stand .ensures (a .st w) (working i (steps - 1)) (a .t .mail w) (a .t .adds w) in
-    let stood = stands (own-stored a) (refl, refl, refl) in
-    works-holds a i (steps - 1) (at-work a (start .pre .1) ∙ ap (working i) some) _ stood (x .time) op is
+    let works = at-work a (start .pre .1) in
+    let some : steps ≡ suc (steps - 1) = omega (arith, c .before .before .before .before .if1) in
+    let fewer = c .before .before .worked .ensures i steps (a .t .mail w) (a .t .adds w) (rw works at (own-stored a)) in
+    works-holds a i (steps - 1) (works ∙ ap (working i) some) _ fewer (x .time) op is
 
 pub work-spec : {M : Type 1} → statement M
 work-spec =
@@ -63,8 +58,7 @@ work-spec =
     same-length
     same-length-2
     returns
-    slice-read-task
-    sub-stand
-    stand-requires
+    sub-worked
+    worked-requires
     same-length-3
     returns-2)

@@ -8,12 +8,6 @@ use borrow.Author.Needs.{needs}
 use Rattle.lock_steps.proofs.owner.hand_step.Statement.{statement}
 use Rattle.lock_steps.proofs.owner.hand_step.Tie as tie
 
-add-served : tie.Need-add-served
-add-served c = search needs
-
-mul-served : tie.Need-mul-served
-mul-served c = search needs
-
 slice-read-served : tie.Need-slice-read-served
 slice-read-served c = omega (arith, own-long (c .before .before .before .pre .0 .1))
 
@@ -55,8 +49,6 @@ pub hand-step-spec : {M : Type 1} → statement M
 hand-step-spec =
     tie.close
     (tie.spec
-    add-served
-    mul-served
     slice-read-served
     add-go-to
     go-to-requires

@@ -30,12 +30,6 @@ mul-task c = search needs
 shared-slice-read-task : tie.Need-shared-slice-read-task
 shared-slice-read-task c = search needs
 
-add-served : tie.Need-add-served
-add-served c = search needs
-
-mul-served : tie.Need-mul-served
-mul-served c = search needs
-
 slice-read-served : tie.Need-slice-read-served
 slice-read-served c =
     let start = c .before .before .before .before .before .before .before .before .before .before in
@@ -166,8 +160,6 @@ serve-step-spec =
     returns
     mul-task
     shared-slice-read-task
-    add-served
-    mul-served
     slice-read-served
     add-if2
     front-waiter-requires

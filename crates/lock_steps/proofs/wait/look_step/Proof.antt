@@ -8,12 +8,6 @@ use borrow.Author.Needs.{needs}
 use Rattle.lock_steps.proofs.wait.look_step.Statement.{statement}
 use Rattle.lock_steps.proofs.wait.look_step.Tie as tie
 
-add-ticket : tie.Need-add-ticket
-add-ticket c = search needs
-
-mul-ticket : tie.Need-mul-ticket
-mul-ticket c = search needs
-
 slice-read-ticket : tie.Need-slice-read-ticket
 slice-read-ticket c = omega (arith, own-long (c .before .before .before .before .before .before .pre .0 .1))
 
@@ -83,8 +77,6 @@ pub look-step-spec : {M : Type 1} → statement M
 look-step-spec =
     tie.close
     (tie.spec
-    add-ticket
-    mul-ticket
     slice-read-ticket
     look-requires
     enum-told

@@ -7,12 +7,6 @@ use borrow.Author.Needs.{needs}
 use Rattle.lock_steps.proofs.wait.register_step.Statement.{statement}
 use Rattle.lock_steps.proofs.wait.register_step.Tie as tie
 
-add-ticket : tie.Need-add-ticket
-add-ticket c = search needs
-
-mul-ticket : tie.Need-mul-ticket
-mul-ticket c = search needs
-
 slice-read-ticket : tie.Need-slice-read-ticket
 slice-read-ticket c = omega (arith, own-long (c .before .before .before .pre .0 .1))
 
@@ -44,8 +38,6 @@ pub register-step-spec : {M : Type 1} → statement M
 register-step-spec =
     tie.close
     (tie.spec
-    add-ticket
-    mul-ticket
     slice-read-ticket
     register-requires
     go-to-requires

@@ -24,9 +24,6 @@ mul-at c = omega (arith, c .before .before .pre, c .before .loop .inv)
 add-at : tie.Need-add-at Inv-loop μ-loop
 add-at c = omega (arith, c .before .before .pre, c .before .loop .inv)
 
-add-at-2 : tie.Need-add-at-2 Inv-loop μ-loop
-add-at-2 c = omega (arith, c .before .before .pre, c .before .loop .inv)
-
 mul-place : tie.Need-mul-place Inv-loop μ-loop
 mul-place c = omega (arith, c .before .before .pre, c .before .loop .inv)
 
@@ -37,7 +34,7 @@ returns : tie.Need-returns Inv-loop μ-loop
 returns c =
     let at = c .before .before .before .loop in
     let start = c .before .before .before .before in
-    λ s m u h e. owner-here (start .args .store .now) (start .args .workers) (at .w) (start .pre .0) (start .pre .1) (at .inv .1)
+    λ s m u h e. owner-here (start .args .store .now) (start .args .workers) (at .w) (at .inv .1)
     (c .before .before .loop-test .taken) (at .inv .0) s m u h e (c .if1 .taken)
 
 sub-w : tie.Need-sub-w Inv-loop μ-loop
@@ -51,7 +48,7 @@ loop-again c =
     let at = c .before .before .before .loop in
     let start = c .before .before .before .before in (
       omega (arith, at .inv),
-      λ s m u h e. owner-below (start .args .store .now) (start .args .workers) (at .w) (start .pre .0) (start .pre .1) (at .inv .1)
+      λ s m u h e. owner-below (start .args .store .now) (start .args .workers) (at .w) (at .inv .1)
           (c .before .before .loop-test .taken) (at .inv .0) s m u h e (c .if1 .left),
     )
 
@@ -64,5 +61,5 @@ returns-2 c =
 pub find-owner-spec : {M : Type 1} → statement M
 find-owner-spec =
     tie.close
-    (tie.spec Inv-loop μ-loop loop-holds sub-at mul-at add-at add-at-2
+    (tie.spec Inv-loop μ-loop loop-holds sub-at mul-at add-at
     mul-place shared-slice-read-place returns sub-w loop-less loop-again returns-2)
