@@ -14,7 +14,6 @@ use super::flags::DONE;
 use memory::layout;
 use memory::share::post;
 use memory::share::stand;
-use memory::share::worked;
 use memory::tally::Tally;
 
 // Posts DONE to each of so many accesses from `first` on.
@@ -62,6 +61,7 @@ pub fn work(n: Tally, rows: &mut [u64], own: &mut [u64], time: u64) -> Tally
     if steps == 0 {
         return end(n, rows, own, time);
     }
-    worked(own, steps - 1);
+    // of the stand, only what is left changes
+    own[layout::LEFT] = steps - 1;
     n
 }

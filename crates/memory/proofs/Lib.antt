@@ -1,3 +1,2 @@
-pub mod Shares
 pub mod Finishing
 pub mod Laying

@@ -6,5 +6,6 @@ pub mod Shares
 pub mod Memory
 pub mod RowLaws
 pub mod ShareLaws
+pub mod StoringLaws
 pub mod Standing
 pub mod Starting

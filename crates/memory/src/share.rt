@@ -3,7 +3,7 @@ ghost use mathlib.Core.Path.{_≡_};
 ghost use mathlib.Core.List.{List, [], _∷_, _++_};
 ghost use Prim.Native.Nat.{ℕ, _<_};
 ghost use lib.ListN.{length, getD};
-ghost use Rattle.tasks.specs.Tasks.{Message, Stand, working};
+ghost use Rattle.tasks.specs.Tasks.{Message, Stand};
 ghost use Rattle.memory.specs.Layout as layout;
 ghost use Rattle.memory.specs.Codes.{Coded, letter};
 ghost use Rattle.memory.specs.Shares.{Stored};
@@ -17,15 +17,6 @@ pub fn stand(own: &mut [u64], code: u64, about: u64, left: u64)
 {
     own[layout::STAND] = code;
     own[layout::ABOUT] = about;
-    own[layout::LEFT] = left;
-}
-
-// Sets how many steps of work are left.
-pub fn worked(own: &mut [u64], left: u64)
-    requires { ⌜ length (now own) ≡ layout.part ⌝ }
-    ensures { λ _. ⌜ ((i n : ℕ) (mail : List Message) (adds : List ℕ) →
-        Stored (now (own .entry)) (working i n) mail adds → Stored (now (own .exit)) (working i left) mail adds) ⌝ }
-{
     own[layout::LEFT] = left;
 }
 

@@ -5,6 +5,7 @@ use mathlib.Core.Path.{_≡_, ap, _∙_}
 use lib.ListN.{length, getD}
 use Rattle.tasks.specs.Tasks.{working}
 use Rattle.memory.specs.Layout as layout
+use Rattle.memory.specs.StoringLaws.{stored-worked}
 use Rattle.duties.proofs.Held.{own-stored}
 use Rattle.duties.proofs.Working.{at-work, works-holds}
 use borrow.Author.Needs.{needs}
@@ -29,24 +30,24 @@ same-length-2 c = search needs
 returns : tie.Need-returns
 returns c = search needs
 
-sub-worked : tie.Need-sub-worked
-sub-worked c = search needs
+sub-own : tie.Need-sub-own
+sub-own c = search needs
 
-worked-requires : tie.Need-worked-requires
-worked-requires c κs = facts (c .before .before .before .before .before)
+slice-write-own : tie.Need-slice-write-own
+slice-write-own c = omega (arith, facts (c .before .before .before .before))
 
 same-length-3 : tie.Need-same-length-3
 same-length-3 c = search needs
 
 returns-2 : tie.Need-returns-2
 returns-2 c m w a op is =
-    let start = c .before .before .before .before .before .before .before .before in
+    let start = c .before .before .before .before in
     let x = start .args in
     let i = getD (x .own .now) layout.about 0 in
     let steps = getD (x .own .now) layout.left 0 in
     let works = at-work a (start .pre .1) in
-    let some : steps ≡ suc (steps - 1) = omega (arith, c .before .before .before .before .if1) in
-    let fewer = c .before .before .worked .ensures i steps (a .t .mail w) (a .t .adds w) (rw works at (own-stored a)) in
+    let some : steps ≡ suc (steps - 1) = omega (arith, c .if1) in
+    let fewer = stored-worked (rw works at (own-stored a)) (steps - 1) in
     works-holds a i (steps - 1) (works ∙ ap (working i) some) _ fewer (x .time) op is
 
 pub work-spec : {M : Type 1} → statement M
@@ -58,7 +59,7 @@ work-spec =
     same-length
     same-length-2
     returns
-    sub-worked
-    worked-requires
+    sub-own
+    slice-write-own
     same-length-3
     returns-2)

@@ -1,5 +1,5 @@
 -- `share::add` meets its contract.
-use Rattle.memory.proofs.Shares.{stored-add}
+use Rattle.memory.specs.StoringLaws.{stored-add}
 use borrow.Author.Needs.{needs}
 use Rattle.memory.proofs.share.add.Statement.{statement}
 use Rattle.memory.proofs.share.add.Tie as tie

@@ -1,7 +1,7 @@
 -- `share::post` meets its contract.
 use native.Mathlib.Omega.{arith}
 use lib.ListN.{length-set}
-use Rattle.memory.proofs.Shares.{stored-post}
+use Rattle.memory.specs.StoringLaws.{stored-post}
 use borrow.Author.Needs.{needs}
 use Rattle.memory.proofs.share.post.Statement.{statement}
 use Rattle.memory.proofs.share.post.Tie as tie

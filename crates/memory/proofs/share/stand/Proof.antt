@@ -1,5 +1,5 @@
 -- `share::stand` meets its contract.
-use Rattle.memory.proofs.Shares.{stored-stand}
+use Rattle.memory.specs.StoringLaws.{stored-stand}
 use borrow.Author.Needs.{needs}
 use Rattle.memory.proofs.share.stand.Statement.{statement}
 use Rattle.memory.proofs.share.stand.Tie as tie

@@ -1,7 +1,7 @@
 -- `share::take_add` meets its contract.
 use mathlib.Core.Path.{refl}
 use Rattle.memory.specs.Layout as layout
-use Rattle.memory.proofs.Shares.{still, stored-take-add}
+use Rattle.memory.specs.StoringLaws.{still, stored-take-add}
 use borrow.Author.Needs.{needs}
 use Rattle.memory.proofs.share.take_add.Statement.{statement}
 use Rattle.memory.proofs.share.take_add.Tie as tie

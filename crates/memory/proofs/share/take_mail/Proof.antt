@@ -1,7 +1,7 @@
 -- `share::take_mail` meets its contract.
 use mathlib.Core.Path.{refl}
 use Rattle.memory.specs.Layout as layout
-use Rattle.memory.proofs.Shares.{still, stored-take-mail}
+use Rattle.memory.specs.StoringLaws.{still, stored-take-mail}
 use borrow.Author.Needs.{needs}
 use Rattle.memory.proofs.share.take_mail.Statement.{statement}
 use Rattle.memory.proofs.share.take_mail.Tie as tie
