@@ -4,7 +4,7 @@ use native.Mathlib.Omega.{arith}
 use mathlib.Core.Path.{_≡_, sym, ap, _∙_}
 use mathlib.Core.List.{List, _++_}
 use lib.ListN.{length, drop}
-use Rattle.plan.specs.declared.Refusal.the-variants.{OutputTooShort}
+use Rattle.refusals.specs.declared.Refusal.the-variants.{OutputTooShort}
 use Rattle.machine.specs.State.{Setup, State}
 use Rattle.machine.specs.Step.{finished}
 use Rattle.machine.specs.Ranges.{Sized}

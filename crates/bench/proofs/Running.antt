@@ -7,8 +7,8 @@ use lib.ListN.{length, take, drop, replicate, length-replicate}
 use lib.Seq.{take-at, drop-at}
 use borrow.Author.Tests.{lt-ltb, le-ltb}
 use Rattle.runs.specs.Update.{order, clash}
-use Rattle.plan.specs.declared.Refusal.{Refusal}
-use Rattle.plan.specs.declared.Refusal.the-variants.{TextTooLong, StoreTooShort}
+use Rattle.refusals.specs.declared.Refusal.{Refusal}
+use Rattle.refusals.specs.declared.Refusal.the-variants.{TextTooLong, StoreTooShort}
 use Rattle.plan.specs.Plan.{Plan}
 use Rattle.plan.specs.Reading.{Reading, accepted, refused, reading}
 use Rattle.reader.specs.declared.ReadPlan.{ReadPlan}

@@ -4,11 +4,12 @@ use mathlib.Core.Bool.{true, false}
 use mathlib.Core.List.{List, [], _∷_, _++_}
 use lib.ListN.{length, replicate, drop}
 use lib.Dec.{ltb}
-use Rattle.plan.specs.declared.Refusal.{Refusal}
-use Rattle.plan.specs.declared.Refusal.the-variants.{TextTooLong, StoreTooShort, OutputTooShort}
-use Rattle.plan.specs.Text.{bytes, decimal, line}
+use Rattle.refusals.specs.declared.Refusal.{Refusal}
+use Rattle.refusals.specs.declared.Refusal.the-variants.{TextTooLong, StoreTooShort, OutputTooShort}
+use Rattle.text.specs.Text.{bytes, decimal, line}
 use Rattle.plan.specs.Plan.{Plan}
-use Rattle.plan.specs.Reading.{Reading, accepted, refused, reading, number, isTooLong}
+use Rattle.plan.specs.Reading.{Reading, accepted, refused, reading, isTooLong}
+use Rattle.refusals.specs.Number.{number}
 use Rattle.reader.specs.declared.Checked.{Checked}
 use Rattle.reader.specs.Verdict.{verdict}
 use Rattle.orders.specs.Reached.{setupOf, reached}

@@ -1,7 +1,8 @@
 -- The program's answer with every definition in it opened, so that it is computed where this is unfolded.
 use mathlib.Core.List.{List}
 use Prim.Native.Nat.{ℕ}
-use Rattle.plan.specs.Text.{bytes, every, allOf, split, valueAfter, numberOf, digitsBefore, decimal, line}
+use Rattle.runs.specs.Every.{every}
+use Rattle.text.specs.Text.{bytes, allOf, split, valueAfter, numberOf, digitsBefore, decimal, line}
 use Rattle.plan.specs.Line.{accessOf, lineBy, lineOfFields}
 use Rattle.plan.specs.Reading.{misplaced, inRange, tooMany, repeats, addressTwice, fault, readLines, reading}
 use Rattle.plan.specs.Orders.{seededPicks, picksOfAll}

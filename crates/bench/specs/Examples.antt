@@ -4,7 +4,7 @@ use Prim.Native.String.{String}
 use mathlib.Core.Path.{_≡_, refl}
 use mathlib.Core.List.{List, [], _∷_, map}
 use lib.ListN.{length}
-use Rattle.plan.specs.Text.{bytes}
+use Rattle.text.specs.Text.{bytes}
 use Rattle.plan.specs.Reading.{Reading, accepted, refused, reading}
 use Rattle.plan.specs.Orders.{numbersFrom, picksUpTo}
 use Rattle.tasks.specs.Accesses.{accesses}

@@ -7,8 +7,8 @@ use lib.ListN.{length, drop}
 use borrow.Author.Tests.{le-ltb}
 use Rattle.runs.specs.Update.{clash}
 use Rattle.runs.specs.Picks.{Regular}
-use Rattle.plan.specs.declared.Refusal.the-variants.{TextTooLong}
-use Rattle.plan.specs.Text.{lineFeed, bytes, decimal, split, line}
+use Rattle.refusals.specs.declared.Refusal.the-variants.{TextTooLong}
+use Rattle.text.specs.Text.{lineFeed, bytes, decimal, split, line}
 use Rattle.plan.specs.Plan.{Plan}
 use Rattle.plan.specs.Reading.{accepted, refused, readLines, emptyPlan, isTooLong, reading}
 use Rattle.plan.specs.Orders.{picksUpTo}

@@ -4,7 +4,7 @@ use mathlib.Core.Path.{_≡_}
 use mathlib.Core.List.{List, _++_}
 use lib.ListN.{length, drop}
 use borrow.Author.Tests.{lt-ltb, le-ltb}
-use Rattle.plan.specs.declared.Refusal.the-variants.{OutputTooShort}
+use Rattle.refusals.specs.declared.Refusal.the-variants.{OutputTooShort}
 use Rattle.bench.specs.Answer.{cleared, refusal, written}
 use Rattle.bench.specs.declared.Answer.the-variants.{Reports}
 

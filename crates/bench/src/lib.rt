@@ -4,9 +4,9 @@ ghost use mathlib.Core.List.{_++_};
 ghost use Prim.Native.Nat.{_≤_};
 ghost use lib.ListN.{length, drop, replicate};
 ghost use Rattle.bench.specs.Answer.{check as checks, run as runs};
-use plan::Refusal;
 use play::run_plan;
 use reader::Checked;
+use refusals::Refusal;
 
 pub mod play; // play.rt: a run of an accepted plan
 

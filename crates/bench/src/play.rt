@@ -22,11 +22,10 @@ ghost use Rattle.bench.specs.Answer.{reportOf, written};
 use super::Answer;
 use memory::layout;
 use orders::play_orders;
-use plan::Refusal;
 use reader::ReadPlan;
+use refusals::Refusal;
 use report::Summary;
-use report::report_length;
-use report::write_report;
+use report::put_report;
 use scheduler::fresh;
 use scheduler::is_finished;
 use scheduler::owner::find_owner;
@@ -74,11 +73,12 @@ fn answer_of(
         × (now (output .exit) ≡ (written limit left (now (output .entry)) (s .picks) (report c s)) .output)) ⌝ }
 {
     let summary = summary_of(n, store);
-    let length = report_length(summary, rows, labels);
+    // written into no bytes, it is only counted
+    let length = put_report(summary, text, rows, labels, &mut output[..0]);
     if output.len() < length {
         return Answer::Refuses(Refusal::OutputTooShort, 0);
     }
-    write_report(summary, text, rows, labels, output);
+    put_report(summary, text, rows, labels, output);
     let picks = n.picks;
     Answer::Reports { picks, length }
 }

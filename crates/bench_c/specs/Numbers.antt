@@ -3,7 +3,7 @@ use Rattle.reader.specs.declared.Checked.{Checked}
 use Rattle.reader.specs.declared.Checked.the-variants.{Accepted, Refused}
 use Rattle.bench.specs.declared.Answer.{Answer}
 use Rattle.bench.specs.declared.Answer.the-variants.{Reports, Refuses}
-use Rattle.plan.specs.Reading.{number}
+use Rattle.refusals.specs.Number.{number}
 use Rattle.bench_c.specs.declared.CheckedC.{CheckedC}
 use Rattle.bench_c.specs.declared.RanC.{RanC}
 

@@ -9,9 +9,9 @@ use native.Mathlib.Nat.{suc-mul, mul-le-mul, mul-le-mul-right}
 use lib.ListN.{length, length-append, length-replicate, length-take}
 use lib.Dec.{eqb}
 use borrow.Author.Tests.{ltb-false}
-use Rattle.plan.specs.declared.Refusal.{Refusal}
-use Rattle.plan.specs.declared.Refusal.the-variants.{Misplaced, TextTooLong}
-use Rattle.plan.specs.Text.{lineFeed, onFirst, split}
+use Rattle.refusals.specs.declared.Refusal.{Refusal}
+use Rattle.refusals.specs.declared.Refusal.the-variants.{Misplaced, TextTooLong}
+use Rattle.text.specs.Text.{lineFeed, onFirst, split}
 use Rattle.plan.specs.Plan.{Order, picks, rounds, seeded, Plan}
 use Rattle.plan.specs.Line.{Line, workers, task, order, lineOf}
 use Rattle.plan.specs.Reading.{Reading, accepted, refused, atStart, fault, add, readLine, readEnd, readLines, emptyPlan, isTooLong, reading}

@@ -5,9 +5,9 @@ use mathlib.Core.List.{List, [], _∷_, map}
 use mathlib.Core.Bool.{true, false}
 use mathlib.Core.Option.{Option, none, some, Option·map}
 use lib.Dec.{eqb}
-use Rattle.plan.specs.declared.Refusal.{Refusal}
-use Rattle.plan.specs.declared.Refusal.the-variants.{OutOfRange, Misplaced, TooMany, AddressTwice}
-use Rattle.plan.specs.Text.{allOf, numberOf}
+use Rattle.refusals.specs.declared.Refusal.{Refusal}
+use Rattle.refusals.specs.declared.Refusal.the-variants.{OutOfRange, Misplaced, TooMany, AddressTwice}
+use Rattle.text.specs.Text.{allOf, numberOf}
 use Rattle.plan.specs.Plan as plans
 use Rattle.plan.specs.Plan.{Plan, picks, rounds, seeded}
 use Rattle.plan.specs.Line.{Line, workers, task, order, isLabel, accessOf, oneNumber, withBoth, twoNumbers, withCost, labelAndCost, lineBy, lineOfFields}

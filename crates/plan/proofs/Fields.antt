@@ -17,7 +17,8 @@ use Rattle.plan.specs.declared.field.Field.the-variants as fields
 use Rattle.plan.specs.declared.field.Number.{Number}
 use Rattle.plan.specs.declared.field.Number.the-variants as numbers
 use Rattle.plan.specs.declared.field.Digits.{Digits}
-use Rattle.plan.specs.Text.{within, every, isDigit, valueAfter, numberOf}
+use Rattle.runs.specs.Every.{every}
+use Rattle.text.specs.Text.{within, isDigit, valueAfter, numberOf}
 use Rattle.plan.specs.Line.{isLabelByte, access, accessOf}
 use Rattle.plan.specs.PassFields.{Cut, endless, cut, cutAfter, fieldOf, clipped, numberIs, accessIs, numberItem, labelItem, accessItem, kindOf, letterItem, answer, fieldIs, asField, numberBy, asNumber, numberField, digitAfter, endNumber, endLabel, asAccess, afterLetter}
 use Rattle.plan.proofs.Basics.{ways, both-left, byte-at}

@@ -8,11 +8,12 @@ use native.Mathlib.Omega.{arith}
 use lib.ListN.{length, getD, length-append}
 use lib.Dec.{eqb, leb}
 use borrow.Author.Tests.{ltb-true, ltb-false, leb-true, leb-false, eqb-true, not-false}
-use Rattle.plan.specs.declared.Refusal.{Refusal}
-use Rattle.plan.specs.declared.Refusal.the-variants.{OutOfRange}
-use Rattle.plan.specs.Text.{lineFeed, tab, 'P', 'R', 'S', 'T', 'W', within, every, allOf, split, numberOf}
+use Rattle.refusals.specs.declared.Refusal.{Refusal}
+use Rattle.refusals.specs.declared.Refusal.the-variants.{OutOfRange}
+use Rattle.runs.specs.Every.{every}
+use Rattle.text.specs.Text.{lineFeed, tab, within, allOf, split, numberOf}
 use Rattle.plan.specs.Plan.{Access, Task, Order, picks, rounds, seeded, Plan}
-use Rattle.plan.specs.Line.{Line, workers, task, order, isLabel, accessOf, oneNumber, withBoth, twoNumbers, withCost, labelAndCost, lineBy, lineOfFields, lineOf}
+use Rattle.plan.specs.Line.{'P', 'R', 'S', 'T', 'W', Line, workers, task, order, isLabel, accessOf, oneNumber, withBoth, twoNumbers, withCost, labelAndCost, lineBy, lineOfFields, lineOf}
 use Rattle.plan.specs.Reading.{Reading, accepted, refused, atStart, misplaced, orderInRange, inRange, tooMany, repeats, addressTwice, fault, add, readLine, readEnd, readLines, emptyPlan, isTooLong, reading}
 
 -- each element of a list, by its number

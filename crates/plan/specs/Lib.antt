@@ -1,4 +1,3 @@
-pub mod Text
 pub mod Plan
 pub mod Line
 pub mod Reading

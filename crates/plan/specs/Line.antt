@@ -5,8 +5,31 @@ use mathlib.Core.List.{List, [], _∷_, map}
 use mathlib.Core.Option.{Option, none, some, Option·map}
 use lib.ListN.{length}
 use lib.Dec.{eqb}
-use Rattle.plan.specs.Text.{tab, hyphen, 'P', 'R', 'S', 'T', 'W', 'r', 'w', within, every, allOf, split, isDigit, numberOf}
+use Rattle.runs.specs.Every.{every}
+use Rattle.text.specs.Text.{tab, hyphen, within, allOf, split, isDigit, numberOf}
 use Rattle.plan.specs.Plan.{Access, Task, Order, picks, rounds, seeded}
+
+-- the letters of lines and accesses
+abbrev pub 'P' : ℕ
+'P' = 80
+
+abbrev pub 'R' : ℕ
+'R' = 82
+
+abbrev pub 'S' : ℕ
+'S' = 83
+
+abbrev pub 'T' : ℕ
+'T' = 84
+
+abbrev pub 'W' : ℕ
+'W' = 87
+
+abbrev pub 'r' : ℕ
+'r' = 114
+
+abbrev pub 'w' : ℕ
+'w' = 119
 
 -- a line that is of its form
 pub data Line : Type 0 where

@@ -16,9 +16,9 @@ use Rattle.plan.specs.declared.field.Field.the-variants as fields
 use Rattle.plan.specs.declared.field.Number.{Number}
 use Rattle.plan.specs.declared.field.Number.the-variants as numbers
 use Rattle.plan.specs.declared.field.Digits.{Digits}
-use Rattle.plan.specs.Text.{tab, lineFeed, 'P', 'R', 'S', 'T', 'W', within, numberOf}
+use Rattle.text.specs.Text.{tab, lineFeed, within, numberOf}
 use Rattle.plan.specs.Plan.{Access}
-use Rattle.plan.specs.Line.{isLabel, accessOf}
+use Rattle.plan.specs.Line.{'P', 'R', 'S', 'T', 'W', isLabel, accessOf}
 
 -- ---- the first field of a text
 

@@ -1,26 +1,16 @@
 -- What a text comes to: the plan that it means, or the first faulty line and its refusal.
 use Prim.Native.Nat.{ℕ, suc, _^_}
-use mathlib.Core.Bool.{Bool, true, false, cond, not, _&&_, _||_}
-use mathlib.Core.List.{List, [], _∷_, _++_, map}
+use mathlib.Core.Bool.{Bool, false, cond, not, _&&_, _||_}
+use mathlib.Core.List.{List, [], _∷_, _++_}
 use mathlib.Core.Option.{Option, none, some}
 use lib.ListN.{length}
 use lib.Dec.{eqb, leb, ltb}
-use Rattle.plan.specs.declared.Refusal.{Refusal}
-use Rattle.plan.specs.declared.Refusal.the-variants.{Malformed, OutOfRange, Misplaced, TooMany, AddressTwice, TextTooLong, StoreTooShort, OutputTooShort}
-use Rattle.plan.specs.Text.{lineFeed, within, every, split}
-use Rattle.plan.specs.Plan.{Access, Task, Order, picks, rounds, seeded, Plan}
+use Rattle.refusals.specs.declared.Refusal.{Refusal}
+use Rattle.refusals.specs.declared.Refusal.the-variants.{Malformed, OutOfRange, Misplaced, TooMany, AddressTwice, TextTooLong}
+use Rattle.runs.specs.Every.{every}
+use Rattle.text.specs.Text.{lineFeed, within, split}
+use Rattle.plan.specs.Plan.{Access, Order, picks, rounds, seeded, Plan}
 use Rattle.plan.specs.Line.{Line, workers, task, order, lineOf}
-
--- the paper's number of a refusal
-abbrev pub number : Refusal → ℕ
-number Malformed = 1
-number OutOfRange = 2
-number Misplaced = 3
-number TooMany = 4
-number AddressTwice = 5
-number TextTooLong = 6
-number StoreTooShort = 7
-number OutputTooShort = 8
 
 pub data Reading : Type 0 where
   accepted : Plan → Reading

@@ -9,8 +9,8 @@ use mathlib.Core.Option.{Option, none, some, Option·map}
 use lib.ListN.{length}
 use lib.Dec.{eqb, leb, ltb}
 use borrow.Author.Tests.{le-ltb, le-leb, lt-leb, leb-true, ltb-true, ltb-false}
-use Rattle.plan.specs.declared.Refusal.{Refusal}
-use Rattle.plan.specs.declared.Refusal.the-variants.{TooMany, AddressTwice}
+use Rattle.refusals.specs.declared.Refusal.{Refusal}
+use Rattle.refusals.specs.declared.Refusal.the-variants.{TooMany, AddressTwice}
 use Rattle.plan.specs.declared.field.Kind.{Kind}
 use Rattle.plan.specs.declared.field.Kind.the-variants.{Workers, Task, Picks, Rounds, Seeded}
 use Rattle.plan.specs.declared.field.Want.the-variants as wants
@@ -19,7 +19,8 @@ use Rattle.plan.specs.declared.field.Item.the-variants as items
 use Rattle.reader.specs.declared.line.Hand.{Hand}
 use Rattle.reader.specs.declared.line.Fault.{Fault}
 use Rattle.reader.specs.declared.line.Fault.the-variants.{Nothing, Is}
-use Rattle.plan.specs.Text.{within, every, allOf, numberOf}
+use Rattle.runs.specs.Every.{every}
+use Rattle.text.specs.Text.{within, allOf, numberOf}
 use Rattle.plan.specs.Plan.{Access, picks, rounds, seeded, Plan}
 use Rattle.plan.specs.Line.{Line, workers, task, order, isLabel, accessOf, oneNumber, withBoth, twoNumbers, withCost, labelAndCost, lineBy, lineOfFields}
 use Rattle.plan.specs.Reading.{hasOrders, misplaced, inRange, tooMany, repeats, addressTwice, fault}

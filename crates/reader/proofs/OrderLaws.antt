@@ -23,7 +23,7 @@ use Rattle.reader.specs.declared.order.OrderLine.{OrderLine}
 use Rattle.reader.specs.declared.order.OrderLine.the-variants.{End}
 use Rattle.reader.specs.declared.order.Letter.{Letter}
 use Rattle.reader.specs.declared.order.OrderHand.{OrderHand}
-use Rattle.plan.specs.Text.{split, numberOf}
+use Rattle.text.specs.Text.{split, numberOf}
 use Rattle.plan.specs.Plan.{Plan, Order, Access, picks, rounds, seeded}
 use Rattle.plan.specs.Line.{Line, workers, task, order, isLabel, accessOf, lineOf}
 use Rattle.plan.specs.Reading.{orderInRange, inRange, tooMany}

@@ -9,7 +9,7 @@ use lib.ListN.{length, take, drop, length-take}
 use lib.Seq.{take-take}
 use lib.Dec.{eqb}
 use borrow.Author.Tests.{eqb-true}
-use Rattle.plan.specs.Text.{split, onFirst}
+use Rattle.text.specs.Text.{split, onFirst}
 use Rattle.plan.specs.PassFields.{Cut, endless, cut, cutAfter, fieldOf}
 use Rattle.plan.proofs.Basics.{ways, never}
 

@@ -12,7 +12,7 @@ use lib.Dec.{eqb, leb, ltb}
 use borrow.Author.Tests.{lt-ltb, le-ltb, lt-leb, leb-true, leb-false, ltb-false}
 use Rattle.reader.specs.declared.line.Touch.{Touch}
 use Rattle.reader.specs.declared.line.Hand.{Hand}
-use Rattle.plan.specs.Text.{every}
+use Rattle.runs.specs.Every.{every}
 use Rattle.plan.specs.Plan.{Access}
 use Rattle.plan.specs.Line.{access}
 use Rattle.plan.specs.Reading.{repeats}

@@ -11,8 +11,8 @@ use lib.ListN.{length, take, drop, set, replicate, length-set, length-drop, leng
 use lib.Seq.{take-suc-set, drop-set-lt, drop-drop}
 use lib.Dec.{eqb, leb, ltb}
 use borrow.Author.Tests.{ne-eqb, lt-ltb, le-ltb, eqb-true, eqb-false, leb-true, leb-false}
-use Rattle.plan.specs.declared.Refusal.{Refusal}
-use Rattle.plan.specs.declared.Refusal.the-variants.{Malformed, Misplaced, TextTooLong}
+use Rattle.refusals.specs.declared.Refusal.{Refusal}
+use Rattle.refusals.specs.declared.Refusal.the-variants.{Malformed, Misplaced, TextTooLong}
 use Rattle.reader.specs.declared.Checked.the-variants.{Accepted}
 use Rattle.reader.specs.declared.Row.{Row}
 use Rattle.reader.specs.declared.ReadPlan.{ReadPlan}
@@ -25,7 +25,7 @@ use Rattle.plan.specs.declared.field.Field.the-variants as fields
 use Rattle.reader.specs.declared.line.Hand.{Hand}
 use Rattle.reader.specs.declared.line.Fault.{Fault}
 use Rattle.reader.specs.declared.line.Fault.the-variants.{Nothing, Is}
-use Rattle.plan.specs.Text.{split}
+use Rattle.text.specs.Text.{split}
 use Rattle.plan.specs.Plan as plans
 use Rattle.plan.specs.Plan.{Plan, Order, picks, rounds, seeded}
 use Rattle.plan.specs.Line.{Line, workers, task, order, lineOf}

@@ -5,7 +5,7 @@ use mathlib.Core.List.{List, map}
 use mathlib.Core.Option.{none}
 use lib.ListN.{take, set, replicate}
 use lib.Dec.{eqb, leb, ltb}
-use Rattle.plan.specs.declared.Refusal.the-variants.{Malformed, OutOfRange, Misplaced, TooMany, AddressTwice}
+use Rattle.refusals.specs.declared.Refusal.the-variants.{Malformed, OutOfRange, Misplaced, TooMany, AddressTwice}
 use Rattle.plan.specs.declared.field.Kind.{Kind}
 use Rattle.plan.specs.declared.field.Kind.the-variants.{Unread, Workers, Task, Picks, Rounds, Seeded}
 use Rattle.plan.specs.declared.field.Want.{Want}
@@ -16,7 +16,8 @@ use Rattle.reader.specs.declared.line.Touch.{Touch}
 use Rattle.reader.specs.declared.line.Hand.{Hand}
 use Rattle.reader.specs.declared.line.Fault.{Fault}
 use Rattle.reader.specs.declared.line.Fault.the-variants.{Nothing, Is}
-use Rattle.plan.specs.Text.{within, every}
+use Rattle.runs.specs.Every.{every}
+use Rattle.text.specs.Text.{within}
 use Rattle.plan.specs.Plan as plans
 use Rattle.plan.specs.Line.{workers, task, order}
 

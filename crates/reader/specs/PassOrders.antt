@@ -15,7 +15,7 @@ use Rattle.reader.specs.declared.order.Letter.{Letter}
 use Rattle.reader.specs.declared.order.OrderHand.{OrderHand}
 use Rattle.reader.specs.declared.order.OrderLine.{OrderLine}
 use Rattle.reader.specs.declared.order.OrderLine.the-variants.{End, Picks, Rounds, Seeded}
-use Rattle.plan.specs.Text.{lineFeed, split}
+use Rattle.text.specs.Text.{lineFeed, split}
 use Rattle.plan.specs.Plan.{Order, picks, rounds, seeded}
 use Rattle.plan.specs.Line.{Line, workers, task, order, lineOf}
 use Rattle.plan.specs.Reading.{orderInRange}

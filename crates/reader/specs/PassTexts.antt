@@ -4,7 +4,7 @@ use mathlib.Core.Bool.{true, false}
 use mathlib.Core.List.{List, [], _∷_}
 use mathlib.Core.Option.{Option, none, some}
 use lib.ListN.{length, take, drop, replicate}
-use Rattle.plan.specs.declared.Refusal.{Refusal}
+use Rattle.refusals.specs.declared.Refusal.{Refusal}
 use Rattle.reader.specs.declared.Checked.the-variants as checked
 use Rattle.reader.specs.declared.Row.{Row}
 use Rattle.reader.specs.declared.ReadPlan.{ReadPlan}
@@ -12,7 +12,7 @@ use Rattle.reader.specs.declared.Sofar.{Sofar}
 use Rattle.plan.specs.declared.field.Kind.{Kind}
 use Rattle.plan.specs.declared.field.Kind.the-variants.{Unread, Workers, Task, Picks, Rounds, Seeded}
 use Rattle.reader.specs.declared.line.Hand.{Hand}
-use Rattle.plan.specs.Text.{lineFeed, split}
+use Rattle.text.specs.Text.{lineFeed, split}
 use Rattle.plan.specs.Plan as plans
 use Rattle.plan.specs.Line.{Line, workers, task, order, lineOf}
 use Rattle.reader.specs.PassLines.{nowhere, accessesIn}

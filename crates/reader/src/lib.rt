@@ -15,10 +15,10 @@ use line::is_task;
 use line::judge;
 use line::wanted_next;
 use line::with_item;
-use plan::Refusal;
 use plan::field::Field;
 use plan::field::Kind;
 use plan::field::read_field;
+use refusals::Refusal;
 
 pub mod line; // line.rt: the line in hand
 pub mod order; // order.rt: one order line

@@ -3,12 +3,12 @@ ghost use mathlib.Core.Path.{_≡_};
 ghost use mathlib.Core.Bool.{not, _||_};
 ghost use Prim.Native.Nat.{_+_, _^_, _≤_, _<_};
 ghost use lib.ListN.{length};
-ghost use Rattle.plan.specs.Text.{within};
+ghost use Rattle.text.specs.Text.{within};
 ghost use Rattle.reader.specs.PassLines.{bit, fresh, numberIf, wanted, isWhole, isTask, isOut, withNumber, withAccess, holding, stands, isMisplaced, limitsOf, firstFault, judged};
-use plan::Refusal;
 use plan::field::Item;
 use plan::field::Kind;
 use plan::field::Want;
+use refusals::Refusal;
 
 // One access to an address: `writes` is 1 for a writer, else 0 (a number, since a bool would leave a gap that every copy pays for).
 pub struct Touch {

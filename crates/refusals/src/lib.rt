@@ -1,13 +1,31 @@
-// Refusals as they are told outside: by a number, and by the line that a program prints.
+// Refusals: why, the paper's number, and the line that a program prints.
 ghost use mathlib.Core.Path.{_≡_};
-ghost use Prim.Native.Nat.{_+_, _≤_};
-ghost use lib.ListN.{length};
-ghost use Rattle.plan.specs.Reading.{number};
-ghost use Rattle.report.specs.Writing.{fields, Wrote};
+ghost use Prim.Native.Nat.{_+_, _^_, _≤_, _<_};
+ghost use Rattle.refusals.specs.Number.{number};
 ghost use Rattle.refusals.specs.Line.{refusalFields};
-use plan::Refusal;
-use report::number::put_number;
-use report::write::put_field;
+ghost use Rattle.text.specs.Writing.{fields, Wrote};
+use text::number::put_number;
+use text::write::put_field;
+
+// Why a text, a store or an output is refused; `number` in specs/Number.antt gives the paper's number of each.
+pub enum Refusal {
+    // a line without line feed, an unknown first field, a wrong number of fields, a field not of its form
+    Malformed,
+    // a number out of its range, or a picked worker that there is not
+    OutOfRange,
+    // W not first or again, T after an order line, an empty text
+    Misplaced,
+    // a 129th task or a fifth access
+    TooMany,
+    // an address twice in one task
+    AddressTwice,
+    // a text of more than 65,536 bytes
+    TextTooLong,
+    // a store of fewer than 8,192 numbers
+    StoreTooShort,
+    // an output that is shorter than the report
+    OutputTooShort,
+}
 
 // The paper's number.
 pub fn number_of(refusal: Refusal) -> u64
@@ -25,9 +43,9 @@ pub fn number_of(refusal: Refusal) -> u64
     }
 }
 
-// Writes the line that a program prints; it has at most 25 bytes.
+// Writes the line that a program prints, as far as the array reaches; it has at most 25 bytes.
 pub fn put_refusal(refusal: Refusal, line: u64, out: &mut [u8], at: usize) -> usize
-    requires { ⌜ at + 25 ≤ length (now out) ⌝ }
+    requires { ⌜ at + 25 < 2 ^ 64 ⌝ }
     ensures { λ r. ⌜ Wrote (now (out .entry)) at (fields (refusalFields (number refusal) line)) r (now (out .exit)) × (r ≤ at + 25) ⌝ }
 {
     let next = put_field(b"X", b'\t', out, at);

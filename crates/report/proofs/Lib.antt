@@ -1,4 +1,2 @@
-pub mod Writes
 pub mod Words
-pub mod Prints
-pub mod Loops
+pub mod Lines

@@ -1,30 +1,73 @@
--- The words of a report, and what stands for a number that is not known. Assumes nothing.
+-- Words by the numbers that stand for them. Assumes nothing.
 use Prim.Native.Nat.{ℕ, zero, suc, _-_, _≤_}
-use mathlib.Core.Path.{_≡_}
+use mathlib.Core.Path.{_≡_, refl, sym, ap, _∙_}
 use mathlib.Core.Logic.{_≢_}
-use mathlib.Core.Bool.{Bool, true, false}
-use mathlib.Core.List.{[], _∷_}
+use mathlib.Core.Option.{Option, none, some}
 use native.Mathlib.Omega.{arith}
-use borrow.Author.Tests.{ne-eqb}
-use Rattle.plan.specs.Text.{bytes, decimal}
+use lib.Dec.{leb}
+use Rattle.text.specs.Text.{decimal, unknown, numberIf, numberOrNone}
+use Rattle.tasks.specs.Tasks.{Status, new, waiting, ready, held, running, over, stage}
 use Rattle.memory.specs.Layout as layout
-use Rattle.report.specs.Printed.{numberIf, statusWord, ownerWord}
+use Rattle.memory.specs.Codes.{statusCode, optionCode}
+use Rattle.report.specs.Report.{statusName, knownFrom}
 
-pub number-known : (known : Bool) (n : ℕ) → known ≡ true → numberIf known n ≡ decimal n
-number-known known n e = rw e
+-- ---- statuses
 
-pub number-unknown : (known : Bool) (n : ℕ) → known ≡ false → numberIf known n ≡ 45 ∷ []
-unfolding bytes
-number-unknown known n e = rw e
+statusOf : ℕ → Status
+statusOf zero = new
+statusOf (suc zero) = waiting
+statusOf (suc (suc zero)) = ready
+statusOf (suc (suc (suc zero))) = held
+statusOf (suc (suc (suc (suc zero)))) = running
+statusOf (suc (suc (suc (suc (suc n))))) = over
+
+told : (x : Status) → statusOf (statusCode x) ≡ x
+unfolding statusOf
+told new = refl
+told waiting = refl
+told ready = refl
+told held = refl
+told running = refl
+told over = refl
+
+module _ (x : Status) (n : ℕ) (e : statusCode x ≡ n) where
+  pub name-is : (y : Status) → n ≡ statusCode y → statusName x ≡ statusName y
+  name-is y q = ap statusName (sym (told x) ∙ ap statusOf (e ∙ q) ∙ told y)
 
 -- no other word
-pub status-over : (n : ℕ) → n ≢ layout.new → n ≢ layout.waiting → n ≢ layout.ready → n ≢ layout.held → n ≢ layout.running
-    → statusWord n ≡ statusWord layout.over
-unfolding statusWord
-status-over n a b c d e =
-    rw (ne-eqb n layout.new a, ne-eqb n layout.waiting b, ne-eqb n layout.ready c, ne-eqb n layout.held d, ne-eqb n layout.running e)
+pub name-over : (x : Status) (n : ℕ) → statusCode x ≡ n → n ≢ layout.new → n ≢ layout.waiting → n ≢ layout.ready → n ≢ layout.held
+    → n ≢ layout.running → statusName x ≡ statusName over
+name-over new n h a b c d e = absurd (a (sym h))
+name-over waiting n h a b c d e = absurd (b (sym h))
+name-over ready n h a b c d e = absurd (c (sym h))
+name-over held n h a b c d e = absurd (d (sym h))
+name-over running n h a b c d e = absurd (e (sym h))
+name-over over n h a b c d e = refl
 
-pub owner-some : (n : ℕ) → 1 ≤ n → ownerWord n ≡ decimal (n - 1)
-unfolding ownerWord
-owner-some zero h = absurd (omega arith)
-owner-some (suc n) h = let e : suc n - 1 ≡ n = omega arith in rw e
+-- ---- numbers that may not be known
+
+stage-code : (x : Status) → stage x ≡ statusCode x
+stage-code new = refl
+stage-code waiting = refl
+stage-code ready = refl
+stage-code held = refl
+stage-code running = refl
+stage-code over = refl
+
+pub known-from : (first x : Status) (n : ℕ) → statusCode x ≡ n → (k : ℕ) → knownFrom first x k ≡ numberIf (leb (statusCode first) n) k
+known-from first x n e k = rw (stage-code first, stage-code x, e)
+
+module _ (o : Option ℕ) (n : ℕ) (e : optionCode o ≡ n) where
+  pub owner-none : n ≡ 0 → numberOrNone o ≡ unknown
+  owner-none q = go o (e ∙ q)
+    where
+      go : (o : Option ℕ) → optionCode o ≡ 0 → numberOrNone o ≡ unknown
+      go none h = refl
+      go (some w) h = absurd (omega arith)
+
+  pub owner-some : 1 ≤ n → numberOrNone o ≡ decimal (n - 1)
+  owner-some q = go o e
+    where
+      go : (o : Option ℕ) → optionCode o ≡ n → numberOrNone o ≡ decimal (n - 1)
+      go none h = absurd (omega arith)
+      go (some w) h = let same : w ≡ n - 1 = omega arith in ap decimal same

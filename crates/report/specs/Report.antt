@@ -1,18 +1,18 @@
 -- The report of a state, byte for byte.
 use Prim.Native.Nat.{ℕ, suc}
-use mathlib.Core.Bool.{cond}
+use mathlib.Core.Bool.{Bool, cond}
 use mathlib.Core.List.{List, [], _∷_, _++_}
-use mathlib.Core.Option.{Option, none, some}
-use Rattle.plan.specs.Text.{bytes, decimal, line}
+use mathlib.Core.Option.{Option}
+use lib.Dec.{leb}
+use Rattle.text.specs.Text.{bytes, decimal, numberIf, numberOrNone, line}
 use Rattle.plan.specs.Plan.{Task}
-use Rattle.tasks.specs.Tasks.{Status, new, waiting, ready, held, running, over}
+use Rattle.tasks.specs.Tasks.{Status, new, waiting, ready, held, running, over, stage}
 use Rattle.machine.specs.State.{Setup, State}
 use Rattle.machine.specs.Step.{finished}
 use Rattle.machine.specs.Whereabouts.{owner}
 
--- a field that is not yet known
-abbrev pub unknown : List ℕ
-unknown = bytes "-"
+abbrev pub outcomeName : Bool → List ℕ
+outcomeName finished = cond finished (bytes "finished") (bytes "open")
 
 abbrev pub statusName : Status → List ℕ
 statusName new = bytes "new"
@@ -22,38 +22,34 @@ statusName held = bytes "held"
 statusName running = bytes "run"
 statusName over = bytes "over"
 
--- worker and receipt appear from run on
-abbrev pub fromRunOn : Status → ℕ → List ℕ
-fromRunOn new n = unknown
-fromRunOn waiting n = unknown
-fromRunOn ready n = unknown
-fromRunOn held n = unknown
-fromRunOn running n = decimal n
-fromRunOn over n = decimal n
+-- a number that is known from a status on
+abbrev pub knownFrom : Status → Status → ℕ → List ℕ
+knownFrom first status n = numberIf (leb (stage first) (stage status)) n
 
-abbrev pub whenOver : Status → ℕ → List ℕ
-whenOver new n = unknown
-whenOver waiting n = unknown
-whenOver ready n = unknown
-whenOver held n = unknown
-whenOver running n = unknown
-whenOver over n = decimal n
+-- ---- the fields of the lines
 
-abbrev pub numberOrNone : Option ℕ → List ℕ
-numberOrNone none = unknown
-numberOrNone (some n) = decimal n
+abbrev pub outcomeFields : Bool → ℕ → List (List ℕ)
+outcomeFields finished picks = bytes "E" ∷ outcomeName finished ∷ decimal picks ∷ []
+
+-- worker and receipt appear from run on, the ending when the task is over
+abbrev pub taskFields : ℕ → List ℕ → Status → ℕ → ℕ → ℕ → List (List ℕ)
+taskFields i label status runner receipt ending =
+    bytes "T" ∷ decimal i ∷ label ∷ statusName status
+    ∷ knownFrom running status runner ∷ knownFrom running status receipt ∷ knownFrom over status ending ∷ []
+
+abbrev pub lockFields : ℕ → ℕ → Option ℕ → List (List ℕ)
+lockFields head tail owner = bytes "L" ∷ decimal head ∷ decimal tail ∷ numberOrNone owner ∷ []
+
+-- ---- the lines
 
 module _ (c : Setup) (s : State) where
   abbrev pub outcomeLine : List ℕ
-  outcomeLine = line (bytes "E" ∷ cond (finished c s) (bytes "finished") (bytes "open") ∷ decimal (s .picks) ∷ [])
+  outcomeLine = line (outcomeFields (finished c s) (s .picks))
 
   abbrev pub taskLine : ℕ → Task → List ℕ
   taskLine i t =
-      let status = s .tasks .status i in
-      line (
-      bytes "T" ∷ decimal i ∷ t .label ∷ statusName status
-      ∷ fromRunOn status (s .tasks .runner i) ∷ fromRunOn status (s .tasks .receipt i) ∷ whenOver status (s .tasks .ending i) ∷ []
-      )
+      let now = s .tasks in
+      line (taskFields i (t .label) (now .status i) (now .runner i) (now .receipt i) (now .ending i))
 
   -- the lines of the tasks from number i on
   unfoldable pub taskLines : ℕ → List Task → List ℕ
@@ -61,7 +57,7 @@ module _ (c : Setup) (s : State) where
   taskLines i (t ∷ ts) = taskLine i t ++ taskLines (suc i) ts
 
   abbrev pub lockLine : List ℕ
-  lockLine = line (bytes "L" ∷ decimal (s .lock .head) ∷ decimal (s .lock .tail) ∷ numberOrNone (owner c s) ∷ [])
+  lockLine = line (lockFields (s .lock .head) (s .lock .tail) (owner c s))
 
   unfoldable pub report : List ℕ
   report = outcomeLine ++ taskLines 0 (c .tasks) ++ lockLine

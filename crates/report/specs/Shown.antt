@@ -3,13 +3,33 @@ use Prim.Native.Nat.{ℕ}
 use mathlib.Core.Path.{_≡_}
 use mathlib.Core.List.{List}
 use lib.ListN.{length}
+use Rattle.tasks.specs.Accesses.{taskAt}
 use Rattle.machine.specs.State.{Setup, State}
 use Rattle.machine.specs.Step.{finished}
-use Rattle.memory.specs.Codes.{optionCode}
-use Rattle.memory.specs.Rows.{TaskRows}
-use Rattle.memory.specs.Labels.{Labels}
+use Rattle.memory.specs.Codes.{statusCode, optionCode}
+use Rattle.memory.specs.Rows.{TaskRows, outcomeAt}
+use Rattle.memory.specs.Labels.{labelAt, labelIn, Labels}
 use Rattle.machine.specs.Whereabouts.{owner}
+use Rattle.report.specs.Report.{taskFields}
 use Rattle.report.specs.declared.Summary.{Summary}
+
+-- the fields of task i's line
+abbrev pub fieldsOf : Setup → State → ℕ → List (List ℕ)
+fieldsOf c s i =
+    let now = s .tasks in
+    taskFields i (taskAt (c .tasks) i .label) (now .status i) (now .runner i) (now .receipt i) (now .ending i)
+
+-- of one task
+pub record TaskShown (c : Setup) (s : State) (table places text : List ℕ) (i : ℕ) : Type 0 where
+  pub outcome :
+      outcomeAt table i
+      ≡ record {
+        status = statusCode (s .tasks .status i);
+        runner = s .tasks .runner i;
+        receipt = s .tasks .receipt i;
+        ending = s .tasks .ending i;
+      }
+  pub label : labelIn text (labelAt places i) ≡ taskAt (c .tasks) i .label
 
 pub record Shown (c : Setup) (s : State) (summary : Summary) (table places text : List ℕ) : Type 0 where
   pub finished : summary .finished ≡ finished c s

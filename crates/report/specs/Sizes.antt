@@ -1,30 +1,43 @@
 -- How long a report can be.
 use Prim.Native.Nat.{ℕ, suc, _+_, _*_, _^_, _≤_, _<_}
-use mathlib.Core.Path.{_≡_, refl, ap, _∙_}
-use mathlib.Core.Bool.{Bool, true, false, cond}
+use mathlib.Core.Path.{_≡_, refl}
+use mathlib.Core.Bool.{Bool, true, false}
 use mathlib.Core.List.{List, [], _∷_, _++_}
 use mathlib.Core.Option.{Option, none, some}
 use native.Mathlib.Omega.{arith}
-use lib.ListN.{length, getD, length-append}
-use Rattle.plan.specs.Text.{bytes, decimal}
+use lib.ListN.{length, length-append}
+use Rattle.text.specs.Text.{bytes, decimal, numberOrNone}
 use Rattle.plan.specs.Plan.{Task}
 use Rattle.tasks.specs.Accesses.{taskAt}
 use Rattle.tasks.specs.Tasks.{Status, new, waiting, ready, held, running, over}
 use Rattle.machine.specs.State.{Setup, State}
 use Rattle.machine.specs.Step.{finished}
 use Rattle.memory.specs.Layout as layout
-use Rattle.memory.specs.Codes.{optionCode}
 use Rattle.machine.specs.Whereabouts.{owner}
-use Rattle.report.specs.Report.{statusName, fromRunOn, whenOver, numberOrNone}
-use Rattle.report.specs.Report.{outcomeLine, taskLine, taskLines, lockLine, report}
-use Rattle.report.specs.Decimals.{decimal-short, decimal-20}
-use Rattle.report.specs.Lines.{length-3, length-4, length-7}
-use Rattle.report.specs.Shown.{Shown}
-use Rattle.report.specs.declared.Summary.{Summary}
+use Rattle.report.specs.Report.{outcomeName, statusName, knownFrom, outcomeLine, taskLine, taskLines, lockLine, report}
+use Rattle.text.specs.Decimals.{decimal-short, decimal-20, numberSize}
+use Rattle.text.specs.Lines.{length-3, length-4, length-7}
 
--- the first line has at most 32 bytes, a task's 91, and the last one 65
+-- how many bytes the words of a status and of an outcome have at most, with the tab after them
+abbrev pub statusSize : ℕ
+statusSize = 8
+
+abbrev pub outcomeSize : ℕ
+outcomeSize = 9
+
+-- and lines, whatever their numbers
+abbrev pub outcomeLineSize : ℕ
+outcomeLineSize = 2 + outcomeSize + numberSize
+
+abbrev pub taskLineSize : ℕ
+taskLineSize = 2 + numberSize + (layout.mostLabel + 1) + statusSize + 3 * numberSize
+
+abbrev pub lockLineSize : ℕ
+lockLineSize = 2 + 3 * numberSize
+
+-- a task's line has at most 91: its number has three digits, and only `over` has three numbers after it
 abbrev pub longest : ℕ
-longest = 32 + 91 * layout.mostTasks + 65
+longest = outcomeLineSize + 91 * layout.mostTasks + lockLineSize
 
 -- at most so many tasks, labels of at most so many bytes, and numbers of 64 bits
 pub record Small (c : Setup) (s : State) : Type 0 where
@@ -38,7 +51,7 @@ pub record Small (c : Setup) (s : State) : Type 0 where
   pub receipt : (i : ℕ) → i < length (c .tasks) → s .tasks .receipt i < 2 ^ 64
   pub ending : (i : ℕ) → i < length (c .tasks) → s .tasks .ending i < 2 ^ 64
 
-outcome-short : (done : Bool) → length (cond done (bytes "finished") (bytes "open")) ≤ 8
+pub outcome-short : (done : Bool) → length (outcomeName done) ≤ 8
 unfolding bytes
 outcome-short true = omega arith
 outcome-short false = omega arith
@@ -50,7 +63,7 @@ owner-short (some w) h = decimal-20 w (h w refl)
 
 -- a status and what stands after it
 figures-short : (st : Status) (a b e : ℕ) → a < 2 ^ 64 → b < 2 ^ 64 → e < 2 ^ 64
-    → length (statusName st) + length (fromRunOn st a) + length (fromRunOn st b) + length (whenOver st e) ≤ 64
+    → length (statusName st) + length (knownFrom running st a) + length (knownFrom running st b) + length (knownFrom over st e) ≤ 64
 unfolding bytes
 figures-short new a b e p q r = omega arith
 figures-short waiting a b e p q r = omega arith
@@ -71,7 +84,8 @@ module _ (c : Setup) (s : State) where
         decimal-short 2 i (omega arith),
         figures-short status (s .tasks .runner i) (s .tasks .receipt i) (s .tasks .ending i) p q r,
         length-7 (bytes "T") (decimal i) (t .label) (statusName status)
-            (fromRunOn status (s .tasks .runner i)) (fromRunOn status (s .tasks .receipt i)) (whenOver status (s .tasks .ending i)),
+            (knownFrom running status (s .tasks .runner i)) (knownFrom running status (s .tasks .receipt i))
+            (knownFrom over status (s .tasks .ending i)),
       )
 
   tasks-short : (i : ℕ) (ts : List Task) → i + length ts ≤ layout.mostTasks
@@ -97,7 +111,7 @@ module _ (c : Setup) (s : State) where
         arith,
         length-append (outcomeLine c s ++ taskLines c s 0 (c .tasks)) (lockLine c s),
         length-append (outcomeLine c s) (taskLines c s 0 (c .tasks)),
-        length-3 (bytes "E") (cond (finished c s) (bytes "finished") (bytes "open")) (decimal (s .picks)),
+        length-3 (bytes "E") (outcomeName (finished c s)) (decimal (s .picks)),
         outcome-short (finished c s),
         decimal-20 (s .picks) (small .picks),
         length-4 (bytes "L") (decimal (s .lock .head)) (decimal (s .lock .tail)) (numberOrNone (owner c s)),
@@ -108,20 +122,3 @@ module _ (c : Setup) (s : State) where
         tasks-short 0 (c .tasks) (rw z (small .tasks)) (small .labels)
             (λ k g. let h : k < length (c .tasks) = rw z at g in (small .runner k h, small .receipt k h, small .ending k h)),
       )
-
--- what is shown by numbers of 64 bits
-pub shown-small : {c : Setup} {s : State} {summary : Summary} {rows places text : List ℕ} → Shown c s summary rows places text
-    → summary .tasks ≤ layout.mostTasks → summary .picks < 2 ^ 64
-    → summary .head < 2 ^ 64 → summary .tail < 2 ^ 64 → summary .owner < 2 ^ 64 → ((k : ℕ) → getD rows k 0 < 2 ^ 64) → Small c s
-shown-small {c} {s} {summary} {rows} shown tasks picks head tail owns table =
-    record {
-      tasks = omega (arith, shown .count);
-      labels = λ i h. omega (arith, shown .labels i h .short, shown .labels i h .size);
-      picks = rw (shown .picks) at picks;
-      head = rw (shown .head) at head;
-      tail = rw (shown .tail) at tail;
-      owner = λ w e. omega (arith, shown .owner ∙ ap optionCode e);
-      runner = λ i h. rw (shown .rows .runner i h) at (table (layout.taskRow * i + layout.runner));
-      receipt = λ i h. rw (shown .rows .receipt i h) at (table (layout.taskRow * i + layout.receipt));
-      ending = λ i h. rw (shown .rows .ending i h) at (table (layout.taskRow * i + layout.ending));
-    }

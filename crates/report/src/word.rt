@@ -1,23 +1,21 @@
-// The words of a report's fields, and how long they are.
+// The fields of a report that are words, or may be none.
 ghost use mathlib.Core.Path.{_≡_};
-ghost use Prim.Native.Nat.{_≤_};
-ghost use lib.ListN.{length};
-ghost use Rattle.report.specs.Printed.{statusWord, ownerWord, outcomeWord};
-ghost use Rattle.report.specs.Writing.{field, Room, Wrote};
-use crate::number::digits;
-use crate::number::put_number;
-use crate::write::put_field;
+ghost use mathlib.Core.Option.{Option};
+ghost use Prim.Native.Nat.{ℕ, _+_, _^_, _≤_, _<_};
+ghost use Rattle.text.specs.Text.{tab, lineFeed, numberOrNone};
+ghost use Rattle.text.specs.Decimals.{numberSize};
+ghost use Rattle.text.specs.Writing.{field, Wrote};
+ghost use Rattle.tasks.specs.Tasks.{Status};
+ghost use Rattle.memory.specs.Codes.{statusCode, optionCode};
+ghost use Rattle.report.specs.Report.{outcomeName, statusName};
+ghost use Rattle.report.specs.Sizes.{statusSize, outcomeSize};
 use memory::layout;
-
-pub fn outcome_length(finished: bool) -> usize
-    ensures { λ r. ⌜ (r ≡ length (outcomeWord finished)) × (r ≤ 8) ⌝ }
-{
-    if finished { 8 } else { 4 }
-}
+use text::number::put_number;
+use text::write::put_field;
 
 pub fn put_outcome(finished: bool, out: &mut [u8], at: usize) -> usize
-    requires { ⌜ Room (now out) at (field (outcomeWord finished) 9) ⌝ }
-    ensures { λ r. ⌜ Wrote (now (out .entry)) at (field (outcomeWord finished) 9) r (now (out .exit)) ⌝ }
+    requires { ⌜ at + outcomeSize < 2 ^ 64 ⌝ }
+    ensures { λ r. ⌜ Wrote (now (out .entry)) at (field (outcomeName finished) tab) r (now (out .exit)) ⌝ }
 {
     if finished {
         return put_field(b"finished", b'\t', out, at);
@@ -25,22 +23,11 @@ pub fn put_outcome(finished: bool, out: &mut [u8], at: usize) -> usize
     put_field(b"open", b'\t', out, at)
 }
 
-pub fn status_length(status: u64) -> usize
-    ensures { λ r. ⌜ (r ≡ length (statusWord status)) × (r ≤ 7) ⌝ }
-{
-    match status {
-        layout::NEW => 3,
-        layout::WAITING => 7,
-        layout::READY => 5,
-        layout::HELD => 4,
-        layout::RUNNING => 3,
-        _ => 4,
-    }
-}
-
 pub fn put_status(status: u64, out: &mut [u8], at: usize) -> usize
-    requires { ⌜ Room (now out) at (field (statusWord status) 9) ⌝ }
-    ensures { λ r. ⌜ Wrote (now (out .entry)) at (field (statusWord status) 9) r (now (out .exit)) ⌝ }
+    requires { ⌜ at + statusSize < 2 ^ 64 ⌝ }
+    ensures short { λ r. ⌜ r ≤ at + statusSize ⌝ }
+    ensures wrote { λ r. ⌜ ((x : Status) → statusCode x ≡ status
+        → Wrote (now (out .entry)) at (field (statusName x) tab) r (now (out .exit))) ⌝ }
 {
     match status {
         layout::NEW => put_field(b"new", b'\t', out, at),
@@ -52,19 +39,11 @@ pub fn put_status(status: u64, out: &mut [u8], at: usize) -> usize
     }
 }
 
-// The owner's number, or what stands for none.
-pub fn owner_length(owner: u64) -> usize
-    ensures { λ r. ⌜ (r ≡ length (ownerWord owner)) × (r ≤ 20) ⌝ }
-{
-    if owner == 0 {
-        return 1;
-    }
-    digits(owner - 1)
-}
-
+// The owner's number, which is given as 1 more, or none, given as 0.
 pub fn put_owner(owner: u64, out: &mut [u8], at: usize) -> usize
-    requires { ⌜ Room (now out) at (field (ownerWord owner) 10) ⌝ }
-    ensures { λ r. ⌜ Wrote (now (out .entry)) at (field (ownerWord owner) 10) r (now (out .exit)) ⌝ }
+    requires { ⌜ at + numberSize < 2 ^ 64 ⌝ }
+    ensures { λ r. ⌜ ((o : Option ℕ) → optionCode o ≡ owner
+        → Wrote (now (out .entry)) at (field (numberOrNone o) lineFeed) r (now (out .exit))) ⌝ }
 {
     if owner == 0 {
         return put_field(b"-", b'\n', out, at);

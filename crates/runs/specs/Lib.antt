@@ -11,3 +11,4 @@ pub mod Traces
 pub mod Near
 pub mod Circular
 pub mod Stores
+pub mod Every

@@ -9,7 +9,7 @@ use lib.ListN.{length, getD, take}
 use lib.Dec.{eqb, ltb}
 use Rattle.runs.specs.Sums.{sum}
 use Rattle.runs.specs.Searches.{lastBelow, firstFrom}
-use Rattle.plan.specs.Text.{every}
+use Rattle.runs.specs.Every.{every}
 use Rattle.plan.specs.Plan.{Access, Task}
 use Rattle.plan.specs.Reading.{repeats}
 

@@ -99,7 +99,7 @@ fn module(first: u64, count: u64) -> String {
     );
     let _ = writeln!(
         out,
-        "use Rattle.plan.specs.declared.Refusal.the-variants.{{{}}}",
+        "use Rattle.refusals.specs.declared.Refusal.the-variants.{{{}}}",
         REFUSALS.join(", ")
     );
     out.push_str("use Rattle.bench.specs.Answer.{run, written, played}\nuse Rattle.bench.specs.declared.Answer.the-variants.{Reports, Refuses}\nuse Rattle.bench.specs.Computed.{computed}\n\n");
@@ -132,7 +132,7 @@ fn lay_out(root: &Path, text: &str) -> std::io::Result<PathBuf> {
     let listed = std::fs::read_to_string(root.join("crates.txt"))?;
     std::fs::write(
         room.join("crates.txt"),
-        format!("{listed}\ncompared: plan bench\n"),
+        format!("{listed}\ncompared: refusals bench\n"),
     )?;
     let compared = room.join("crates/compared");
     std::fs::create_dir_all(compared.join("src"))?;

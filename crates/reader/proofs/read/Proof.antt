@@ -1,7 +1,7 @@
 -- `reader::read` meets its contract: a text that is too long, and any other.
 -- Assumes nothing.
 use native.Mathlib.Omega.{arith}
-use Rattle.plan.specs.declared.Refusal.the-variants.{TextTooLong}
+use Rattle.refusals.specs.declared.Refusal.the-variants.{TextTooLong}
 use Rattle.reader.proofs.Turns.{too-long, gives-refused}
 use borrow.Author.Needs.{needs}
 use Rattle.reader.proofs.read.Statement.{statement}

@@ -1,9 +1,9 @@
 -- `refusals::put_refusal` meets its contract: field after field. Assumes nothing.
-use mathlib.Core.Path.{ap, sym}
-use Rattle.plan.specs.Text.{bytes, decimal}
-use Rattle.report.proofs.Writes.{room-field, room-left, room-last, room-same, wrote-field, wrote-last, wrote-same}
+use mathlib.Core.Path.{refl, sym, ap}
 use native.Mathlib.Omega.{arith}
-use Rattle.refusals.proofs.Room.{room-line, line-short}
+use Rattle.text.specs.Text.{bytes, decimal}
+use Rattle.text.specs.WritingLaws.{short-ends, short-next, wrote-field, wrote-last, wrote-same}
+use Rattle.refusals.proofs.Short.{number-short}
 use borrow.Author.Needs.{needs}
 use Rattle.refusals.proofs.put_refusal.Statement.{statement}
 use Rattle.refusals.proofs.put_refusal.Tie as tie
@@ -12,19 +12,26 @@ slice-aggregate-put-field : tie.Need-slice-aggregate-put-field
 slice-aggregate-put-field c = search needs
 
 put-field-requires : tie.Need-put-field-requires
-unfolding bytes
-put-field-requires c κs = room-field (room-line _ _ (c .before .before .before .args .refusal) (c .before .before .before .args .line) (omega arith) (c .before .before .before .pre))
+put-field-requires c κs = short-ends 1 (omega arith) (omega (arith, c .before .before .before .pre))
 
 number-of-requires : tie.Need-number-of-requires
 number-of-requires c κs = search needs
 
 put-number-requires : tie.Need-put-number-requires
-unfolding bytes
-put-number-requires c κs = room-same (ap decimal (sym (c .before .number-of .ensures))) (room-field (room-left (c .before .before .before .before .put-field .ensures) (room-line _ _ (c .before .before .before .before .before .before .before .before .args .refusal) (c .before .before .before .before .before .before .before .before .args .line) (omega arith) (c .before .before .before .before .before .before .before .before .pre))))
+put-number-requires c κs =
+    let letter = c .before .before .before .before in
+    omega (arith, short-next 1 (omega arith) (letter .put-field .ensures), letter .before .before .before .before .pre)
 
 put-number-requires-2 : tie.Need-put-number-requires-2
-unfolding bytes
-put-number-requires-2 c κs = room-last (room-left (wrote-same (ap decimal (sym (c .before .before .before .before .before .number-of .ensures))) (c .before .before .before .put-number .ensures)) (room-left (c .before .before .before .before .before .before .before .before .put-field .ensures) (room-line _ _ (c .before .before .before .before .before .before .before .before .before .before .before .before .args .refusal) (c .before .before .before .before .before .before .before .before .before .before .before .before .args .line) (omega arith) (c .before .before .before .before .before .before .before .before .before .before .before .before .pre))))
+put-number-requires-2 c κs =
+    let number = c .before .before .before in
+    let told = number .before .before in
+    let letter = told .before .before .before in
+    let s = letter .before .before .before .before in
+    let wrote = wrote-same (number .put-number .ensures .1) (ap decimal (sym (told .number-of .ensures))) in
+    let at1 = short-next 1 (omega arith) (letter .put-field .ensures) in
+    let at2 = short-next 1 (number-short (s .args .refusal)) wrote in
+    omega (arith, at1, at2, s .pre)
 
 same-length : tie.Need-same-length
 same-length c = search needs
@@ -32,8 +39,18 @@ same-length c = search needs
 returns : tie.Need-returns
 unfolding bytes
 returns c =
-    let wrote = wrote-field (c .before .before .before .before .before .before .before .before .before .before .before .put-field .ensures) (wrote-field (wrote-same (ap decimal (sym (c .before .before .before .before .before .before .before .before .number-of .ensures))) (c .before .before .before .before .before .before .put-number .ensures)) (wrote-last (c .before .before .put-number2 .ensures))) in
-    (wrote, omega (arith, wrote .place, line-short (c .before .before .before .before .before .before .before .before .before .before .before .before .before .before .before .args .refusal) (c .before .before .before .before .before .before .before .before .before .before .before .before .before .before .before .args .line) (omega arith)))
+    let line = c .before .before in
+    let number = line .before .before .before .before in
+    let told = number .before .before in
+    let letter = told .before .before .before in
+    let s = letter .before .before .before .before in
+    let wrote = wrote-same (number .put-number .ensures .1) (ap decimal (sym (told .number-of .ensures))) in
+    let at1 = short-next 1 (omega arith) (letter .put-field .ensures) in
+    let at2 = short-next 1 (number-short (s .args .refusal)) wrote in
+    let at3 = line .put-number2 .ensures .0 in (
+      wrote-field (letter .put-field .ensures) (wrote-field wrote (wrote-last (line .put-number2 .ensures .1) refl)),
+      omega (arith, at1, at2, at3),
+    )
 
 pub put-refusal-spec : {M : Type 1} → statement M
 put-refusal-spec =

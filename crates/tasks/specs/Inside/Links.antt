@@ -11,7 +11,7 @@ use lib.Seq.{getD-append-add}
 use lib.Dec.{eqb, ltb}
 use borrow.Author.Tests.{eqb-true, eqb-false, ltb-true, ltb-false, not-true, not-false}
 use Rattle.runs.specs.Update.{same, by-order}
-use Rattle.plan.specs.Text.{every}
+use Rattle.runs.specs.Every.{every}
 use Rattle.plan.specs.Plan.{Access, Task}
 use Rattle.plan.specs.Reading.{repeats}
 use Rattle.plan.specs.Accepted.{Each, every-each, neither}

@@ -10,7 +10,7 @@ use lib.Dec.{eqb}
 use lib.ListN.{length, getD}
 use borrow.Author.Tests.{eqb-true, not-true}
 use Rattle.runs.specs.Update.{same, order}
-use Rattle.plan.specs.Text.{every}
+use Rattle.runs.specs.Every.{every}
 use Rattle.plan.specs.Plan.{Access, Task}
 use Rattle.tasks.specs.Accesses.{noAccess, taskOf, taskAt, accessAt, first, reader, prev, conflict, total, addr}
 use Rattle.tasks.specs.Flags.{satisfied}

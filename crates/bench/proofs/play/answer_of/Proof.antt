@@ -1,6 +1,10 @@
 -- `play::answer_of` meets its contract.
+use Prim.Native.Nat.{_≤_}
 use native.Mathlib.Omega.{arith}
+use lib.ListN.{length}
 use borrow.Author.Needs.{needs}
+use Rattle.text.specs.WritingLaws.{told-length, wrote-whole, counted}
+use Rattle.report.specs.Report.{report}
 use Rattle.bench.proofs.Answering.{shown, few-tasks, short-labels, too-short, long-enough}
 use Rattle.bench.proofs.play.answer_of.Statement.{statement}
 use Rattle.bench.proofs.play.answer_of.Tie as tie
@@ -11,74 +15,89 @@ summary-of-requires c κs =
     let (_, _, _, sized, _, holds) = pre .1 in
     (pre .0 .0, omega (arith, holds .device .workers, sized .workers))
 
-report-length-requires : tie.Need-report-length-requires
-report-length-requires c κs =
-    let start = c .before .before .before .before .before .before in
+slice-relend-prefix-put-report : tie.Need-slice-relend-prefix-put-report
+slice-relend-prefix-put-report c = search needs
+
+slice-aggregate-put-report : tie.Need-slice-aggregate-put-report
+slice-aggregate-put-report c = search needs
+
+put-report-requires : tie.Need-put-report-requires
+put-report-requires c κs =
+    let sum = c .before .summary-of in
+    let start = c .before .before .before .before .before .before .before in
     let args = start .args in
-    let (m, d, s, sized, labels, holds) = start .pre .1 in
-    let summary = c .summary-of .result in
-    let summed = c .summary-of .ensures in (
+    let (m, d, s, sized, labels, holds) = start .pre .1 in (
       start .pre .0 .1,
       start .pre .0 .2,
-      few-tasks (args .n) (args .store .now) summary summed m d s
+      few-tasks (args .n) (args .store .now) (sum .result) (sum .ensures) m d s
           (args .rows .now) (args .text .now) (args .labels .now) labels holds sized,
-      short-labels (args .n) (args .store .now) summary summed m d s
+      short-labels (args .n) (args .store .now) (sum .result) (sum .ensures) m d s
           (args .rows .now) (args .text .now) (args .labels .now) labels holds,
-    )
-
-returns : tie.Need-returns
-returns c m d s limit left labels holds =
-    let args = c .before .before .before .before .before .before .before .before .args in
-    let summary = c .before .before .summary-of .result in
-    let summed = c .before .before .summary-of .ensures in
-    let is = shown (args .n) (args .store .now) summary summed m d s
-    (args .rows .now) (args .text .now) (args .labels .now) labels holds in
-    too-short (args .n) (args .store .now) summary summed m d s
-    (args .rows .now) (args .text .now) (args .labels .now) labels holds
-    limit left (args .output .now)
-    (omega (arith, c .before .report-length .ensures d s (args .text .now) is, c .if1 .taken))
-
-write-report-requires : tie.Need-write-report-requires
-write-report-requires c κs =
-    let start = c .before .before .before .before .before .before .before .before .before in
-    let args = start .args in
-    let (m, d, s, sized, labels, holds) = start .pre .1 in
-    let summary = c .before .before .before .summary-of .result in
-    let summed = c .before .before .before .summary-of .ensures in
-    let is = shown (args .n) (args .store .now) summary summed m d s
-    (args .rows .now) (args .text .now) (args .labels .now) labels holds in (
-      start .pre .0 .1,
-      start .pre .0 .2,
-      few-tasks (args .n) (args .store .now) summary summed m d s
-          (args .rows .now) (args .text .now) (args .labels .now) labels holds sized,
-      (d, s, is, omega (arith, c .before .before .report-length .ensures d s (args .text .now) is, c .before .if1 .left)),
     )
 
 same-length : tie.Need-same-length
 same-length c = search needs
 
+returns : tie.Need-returns
+returns c m d s limit left labels holds =
+    let first = c .before .before .before in
+    let sum = first .before .before .summary-of in
+    let args = first .before .before .before .before .before .before .before .before .args in
+    let is = shown (args .n) (args .store .now) (sum .result) (sum .ensures) m d s
+    (args .rows .now) (args .text .now) (args .labels .now) labels holds in
+    let put = first .put-report .ensures d s is in
+    rw (counted _ put)
+    (too-short (args .n) (args .store .now) (sum .result) (sum .ensures) m d s
+    (args .rows .now) (args .text .now) (args .labels .now) labels holds
+    limit left (args .output .now)
+    (omega (arith, told-length put, rw (counted _ put) at (c .if1 .taken))))
+
+put-report-requires-2 : tie.Need-put-report-requires-2
+put-report-requires-2 c κs =
+    let sum = c .before .before .before .before .before .before .summary-of in
+    let start = c .before .before .before .before .before .before .before .before .before .before .before .before in
+    let args = start .args in
+    let (m, d, s, sized, labels, holds) = start .pre .1 in (
+      start .pre .0 .1,
+      start .pre .0 .2,
+      few-tasks (args .n) (args .store .now) (sum .result) (sum .ensures) m d s
+          (args .rows .now) (args .text .now) (args .labels .now) labels holds sized,
+      short-labels (args .n) (args .store .now) (sum .result) (sum .ensures) m d s
+          (args .rows .now) (args .text .now) (args .labels .now) labels holds,
+    )
+
+same-length-2 : tie.Need-same-length-2
+same-length-2 c = search needs
+
 returns-2 : tie.Need-returns-2
 returns-2 c m d s limit left labels holds =
-    let args = c .before .before .before .before .before .before .before .before .before .before .before .before .args in
-    let summary = c .before .before .before .before .before .before .summary-of .result in
-    let summed = c .before .before .before .before .before .before .summary-of .ensures in
-    let is = shown (args .n) (args .store .now) summary summed m d s
+    let second = c .before .before in
+    let first = second .before .before .before .before .before in
+    let sum = first .before .before .summary-of in
+    let args = first .before .before .before .before .before .before .before .before .args in
+    let is = shown (args .n) (args .store .now) (sum .result) (sum .ensures) m d s
     (args .rows .now) (args .text .now) (args .labels .now) labels holds in
-    let size = c .before .before .before .before .before .report-length .ensures d s (args .text .now) is in
-    long-enough (args .n) (args .store .now) summary summed m d s
+    let put = first .put-report .ensures d s is in
+    let size = told-length put in
+    let enough : length (report d s) ≤ length (args .output .now) =
+    omega (arith, size, rw (counted _ put) at (second .before .before .if1 .left)) in
+    long-enough (args .n) (args .store .now) (sum .result) (sum .ensures) m d s
     (args .rows .now) (args .text .now) (args .labels .now) labels holds
     limit left (args .output .now) _ _
-    (omega (arith, size, c .before .before .before .before .if1 .left))
+    enough
     size
-    (c .before .before .write-report .ensures d s is .1)
+    (wrote-whole (rw (counted _ put) at (second .put-report2 .ensures d s is)) enough)
 
 pub answer-of-spec : {M : Type 1} → statement M
 answer-of-spec =
     tie.close
     (tie.spec
     summary-of-requires
-    report-length-requires
-    returns
-    write-report-requires
+    slice-relend-prefix-put-report
+    slice-aggregate-put-report
+    put-report-requires
     same-length
+    returns
+    put-report-requires-2
+    same-length-2
     returns-2)

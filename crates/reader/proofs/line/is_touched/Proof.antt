@@ -9,7 +9,7 @@ use mathlib.Core.Path.{_≡_, refl, sym, ap}
 use mathlib.Core.Bool.{Bool, true, not}
 use lib.ListN.{take}
 use lib.Dec.{eqb}
-use Rattle.plan.specs.Text.{every}
+use Rattle.runs.specs.Every.{every}
 use Rattle.reader.specs.declared.line.Touch.{Touch}
 use Rattle.plan.proofs.Basics.{every-more, every-fails}
 use Rattle.reader.proofs.line.is_touched.Statement.{statement}

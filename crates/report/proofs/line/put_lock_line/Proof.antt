@@ -1,6 +1,8 @@
 -- `report::line::put_lock_line` meets its contract. Assumes nothing.
-use Rattle.plan.specs.Text.{bytes}
-use Rattle.report.proofs.Writes.{room-field, room-left, room-last, wrote-field, wrote-last}
+use mathlib.Core.Path.{refl}
+use native.Mathlib.Omega.{arith}
+use Rattle.text.specs.Text.{bytes}
+use Rattle.text.specs.WritingLaws.{short-ends, short-next, wrote-field, wrote-last}
 use borrow.Author.Needs.{needs}
 use Rattle.report.proofs.line.put_lock_line.Statement.{statement}
 use Rattle.report.proofs.line.put_lock_line.Tie as tie
@@ -9,35 +11,31 @@ slice-aggregate-put-field : tie.Need-slice-aggregate-put-field
 slice-aggregate-put-field c = search needs
 
 put-field-requires : tie.Need-put-field-requires
-unfolding bytes
-put-field-requires c κs = room-field (c .before .before .before .pre)
+put-field-requires c κs = short-ends 1 (omega arith) (omega (arith, c .before .before .before .pre))
 
 put-number-requires : tie.Need-put-number-requires
-unfolding bytes
 put-number-requires c κs =
     let letter = c .before .before .before in
-    let room1 = room-left (letter .put-field .ensures) (letter .before .before .before .before .pre) in
-    room-field room1
+    let at2 = short-next 1 (omega arith) (letter .put-field .ensures) in
+    omega (arith, at2, letter .before .before .before .before .pre)
 
 put-number-requires-2 : tie.Need-put-number-requires-2
-unfolding bytes
 put-number-requires-2 c κs =
     let head = c .before .before .before in
     let letter = head .before .before .before .before in
-    let room1 = room-left (letter .put-field .ensures) (letter .before .before .before .before .pre) in
-    let room2 = room-left (head .put-number .ensures) room1 in
-    room-field room2
+    let at2 = short-next 1 (omega arith) (letter .put-field .ensures) in
+    let at3 = head .put-number .ensures .0 in
+    omega (arith, at2, at3, letter .before .before .before .before .pre)
 
 put-owner-requires : tie.Need-put-owner-requires
-unfolding bytes
 put-owner-requires c κs =
     let tail = c .before .before .before in
     let head = tail .before .before .before .before in
     let letter = head .before .before .before .before in
-    let room1 = room-left (letter .put-field .ensures) (letter .before .before .before .before .pre) in
-    let room2 = room-left (head .put-number .ensures) room1 in
-    let room3 = room-left (tail .put-number2 .ensures) room2 in
-    room-last room3
+    let at2 = short-next 1 (omega arith) (letter .put-field .ensures) in
+    let at3 = head .put-number .ensures .0 in
+    let at4 = tail .put-number2 .ensures .0 in
+    omega (arith, at2, at3, at4, letter .before .before .before .before .pre)
 
 same-length : tie.Need-same-length
 same-length c = search needs
@@ -49,10 +47,9 @@ returns c =
     let tail = owner .before .before .before .before in
     let head = tail .before .before .before .before in
     let letter = head .before .before .before .before in
-    let wrote4 = wrote-last (owner .put-owner .ensures) in
-    let wrote3 = wrote-field (tail .put-number2 .ensures) wrote4 in
-    let wrote2 = wrote-field (head .put-number .ensures) wrote3 in
-    wrote-field (letter .put-field .ensures) wrote2
+    λ o e.
+    let last = wrote-last (owner .put-owner .ensures o e) refl in
+    wrote-field (letter .put-field .ensures) (wrote-field (head .put-number .ensures .1) (wrote-field (tail .put-number2 .ensures .1) last))
 
 pub put-lock-line-spec : {M : Type 1} → statement M
 put-lock-line-spec =

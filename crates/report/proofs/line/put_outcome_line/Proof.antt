@@ -1,6 +1,9 @@
 -- `report::line::put_outcome_line` meets its contract. Assumes nothing.
-use Rattle.plan.specs.Text.{bytes}
-use Rattle.report.proofs.Writes.{room-field, room-left, room-last, wrote-field, wrote-last}
+use mathlib.Core.Path.{refl}
+use native.Mathlib.Omega.{arith}
+use Rattle.text.specs.Text.{bytes}
+use Rattle.text.specs.WritingLaws.{short-ends, short-next, wrote-field, wrote-last}
+use Rattle.report.specs.Sizes.{outcome-short}
 use borrow.Author.Needs.{needs}
 use Rattle.report.proofs.line.put_outcome_line.Statement.{statement}
 use Rattle.report.proofs.line.put_outcome_line.Tie as tie
@@ -9,24 +12,21 @@ slice-aggregate-put-field : tie.Need-slice-aggregate-put-field
 slice-aggregate-put-field c = search needs
 
 put-field-requires : tie.Need-put-field-requires
-unfolding bytes
-put-field-requires c κs = room-field (c .before .before .before .pre)
+put-field-requires c κs = short-ends 1 (omega arith) (omega (arith, c .before .before .before .pre))
 
 put-outcome-requires : tie.Need-put-outcome-requires
-unfolding bytes
 put-outcome-requires c κs =
     let letter = c .before .before .before in
-    let room1 = room-left (letter .put-field .ensures) (letter .before .before .before .before .pre) in
-    room-field room1
+    omega (arith, short-next 1 (omega arith) (letter .put-field .ensures), letter .before .before .before .before .pre)
 
 put-number-requires : tie.Need-put-number-requires
-unfolding bytes
 put-number-requires c κs =
-    let outcome = c .before .before .before in
-    let letter = outcome .before .before .before .before in
-    let room1 = room-left (letter .put-field .ensures) (letter .before .before .before .before .pre) in
-    let room2 = room-left (outcome .put-outcome .ensures) room1 in
-    room-last room2
+    let word = c .before .before .before in
+    let letter = word .before .before .before .before in
+    let done = letter .before .before .before .before .args .finished in
+    let at2 = short-next 1 (omega arith) (letter .put-field .ensures) in
+    let at3 = short-next 8 (outcome-short done) (word .put-outcome .ensures) in
+    omega (arith, at2, at3, letter .before .before .before .before .pre)
 
 same-length : tie.Need-same-length
 same-length c = search needs
@@ -34,20 +34,18 @@ same-length c = search needs
 returns : tie.Need-returns
 unfolding bytes
 returns c =
-    let picks = c .before .before in
-    let outcome = picks .before .before .before .before in
-    let letter = outcome .before .before .before .before in
-    let wrote3 = wrote-last (picks .put-number .ensures) in
-    let wrote2 = wrote-field (outcome .put-outcome .ensures) wrote3 in
-    wrote-field (letter .put-field .ensures) wrote2
+    let number = c .before .before in
+    let word = number .before .before .before .before in
+    let letter = word .before .before .before .before in
+    let args = letter .before .before .before .before .args in
+    let at2 = short-next 1 (omega arith) (letter .put-field .ensures) in
+    let at3 = short-next 8 (outcome-short (args .finished)) (word .put-outcome .ensures) in
+    let last = wrote-last (number .put-number .ensures .1) refl in (
+      omega (arith, at2, at3, number .put-number .ensures .0),
+      wrote-field (letter .put-field .ensures) (wrote-field (word .put-outcome .ensures) last),
+    )
 
 pub put-outcome-line-spec : {M : Type 1} → statement M
 put-outcome-line-spec =
     tie.close
-    (tie.spec
-    slice-aggregate-put-field
-    put-field-requires
-    put-outcome-requires
-    put-number-requires
-    same-length
-    returns)
+    (tie.spec slice-aggregate-put-field put-field-requires put-outcome-requires put-number-requires same-length returns)

@@ -1,6 +1,11 @@
--- `report::line::put_task_line` meets its contract. Assumes nothing.
-use Rattle.plan.specs.Text.{bytes}
-use Rattle.report.proofs.Writes.{room-field, room-left, room-last, wrote-field, wrote-last}
+-- `report::line::put_task_line` meets its contract: field after field. Assumes nothing.
+use mathlib.Core.Path.{refl}
+use native.Mathlib.Omega.{arith}
+use Rattle.text.specs.Text.{bytes}
+use Rattle.text.specs.WritingLaws.{short-ends, short-next, wrote-field, wrote-last, wrote-same}
+use Rattle.tasks.specs.Tasks.{running, over}
+use Rattle.memory.specs.Layout as layout
+use Rattle.report.proofs.Words.{known-from}
 use borrow.Author.Needs.{needs}
 use Rattle.report.proofs.line.put_task_line.Statement.{statement}
 use Rattle.report.proofs.line.put_task_line.Tie as tie
@@ -9,66 +14,64 @@ slice-aggregate-put-field : tie.Need-slice-aggregate-put-field
 slice-aggregate-put-field c = search needs
 
 put-field-requires : tie.Need-put-field-requires
-unfolding bytes
-put-field-requires c κs = room-field (c .before .before .before .before .before .before .pre)
+put-field-requires c κs = short-ends 1 (omega arith) (omega (arith, c .before .before .before .before .before .before .pre .0))
 
 put-number-requires : tie.Need-put-number-requires
-unfolding bytes
 put-number-requires c κs =
     let letter = c .before .before .before in
-    let room1 = room-left (letter .put-field .ensures) (letter .before .before .before .before .before .before .before .pre) in
-    room-field room1
+    let s = letter .before .before .before .before .before .before .before in
+    let at1 = short-next 1 (omega arith) (letter .put-field .ensures) in
+    omega (arith, at1, s .pre .0)
 
 put-field-requires-2 : tie.Need-put-field-requires-2
-unfolding bytes
 put-field-requires-2 c κs =
     let number = c .before .before .before in
     let letter = number .before .before .before .before in
-    let room1 = room-left (letter .put-field .ensures) (letter .before .before .before .before .before .before .before .pre) in
-    let room2 = room-left (number .put-number .ensures) room1 in
-    room-field room2
+    let s = letter .before .before .before .before .before .before .before in
+    let at1 = short-next 1 (omega arith) (letter .put-field .ensures) in
+    let at2 = number .put-number .ensures .0 in
+    short-ends layout.mostLabel (s .pre .1) (omega (arith, at1, at2, s .pre .0))
 
 put-status-requires : tie.Need-put-status-requires
-unfolding bytes
 put-status-requires c κs =
     let label = c .before .before .before in
     let number = label .before .before .before .before in
     let letter = number .before .before .before .before in
-    let room1 = room-left (letter .put-field .ensures) (letter .before .before .before .before .before .before .before .pre) in
-    let room2 = room-left (number .put-number .ensures) room1 in
-    let room3 = room-left (label .put-field2 .ensures) room2 in
-    room-field room3
+    let s = letter .before .before .before .before .before .before .before in
+    let at1 = short-next 1 (omega arith) (letter .put-field .ensures) in
+    let at2 = number .put-number .ensures .0 in
+    let at3 = short-next layout.mostLabel (s .pre .1) (label .put-field2 .ensures) in
+    omega (arith, at1, at2, at3, s .pre .0)
 
 put-if-requires : tie.Need-put-if-requires
-unfolding bytes
 put-if-requires c κs =
     let status = c .before .before .before in
     let label = status .before .before .before .before in
     let number = label .before .before .before .before in
     let letter = number .before .before .before .before in
-    let room1 = room-left (letter .put-field .ensures) (letter .before .before .before .before .before .before .before .pre) in
-    let room2 = room-left (number .put-number .ensures) room1 in
-    let room3 = room-left (label .put-field2 .ensures) room2 in
-    let room4 = room-left (status .put-status .ensures) room3 in
-    room-field room4
+    let s = letter .before .before .before .before .before .before .before in
+    let at1 = short-next 1 (omega arith) (letter .put-field .ensures) in
+    let at2 = number .put-number .ensures .0 in
+    let at3 = short-next layout.mostLabel (s .pre .1) (label .put-field2 .ensures) in
+    let at4 = status .put-status .ensures .0 in
+    omega (arith, at1, at2, at3, at4, s .pre .0)
 
 put-if-requires-2 : tie.Need-put-if-requires-2
-unfolding bytes
 put-if-requires-2 c κs =
     let runner = c .before .before .before in
     let status = runner .before .before .before .before in
     let label = status .before .before .before .before in
     let number = label .before .before .before .before in
     let letter = number .before .before .before .before in
-    let room1 = room-left (letter .put-field .ensures) (letter .before .before .before .before .before .before .before .pre) in
-    let room2 = room-left (number .put-number .ensures) room1 in
-    let room3 = room-left (label .put-field2 .ensures) room2 in
-    let room4 = room-left (status .put-status .ensures) room3 in
-    let room5 = room-left (runner .put-if .ensures) room4 in
-    room-field room5
+    let s = letter .before .before .before .before .before .before .before in
+    let at1 = short-next 1 (omega arith) (letter .put-field .ensures) in
+    let at2 = number .put-number .ensures .0 in
+    let at3 = short-next layout.mostLabel (s .pre .1) (label .put-field2 .ensures) in
+    let at4 = status .put-status .ensures .0 in
+    let at5 = runner .put-if .ensures .0 in
+    omega (arith, at1, at2, at3, at4, at5, s .pre .0)
 
 put-if-requires-3 : tie.Need-put-if-requires-3
-unfolding bytes
 put-if-requires-3 c κs =
     let receipt = c .before .before .before in
     let runner = receipt .before .before .before .before in
@@ -76,13 +79,14 @@ put-if-requires-3 c κs =
     let label = status .before .before .before .before in
     let number = label .before .before .before .before in
     let letter = number .before .before .before .before in
-    let room1 = room-left (letter .put-field .ensures) (letter .before .before .before .before .before .before .before .pre) in
-    let room2 = room-left (number .put-number .ensures) room1 in
-    let room3 = room-left (label .put-field2 .ensures) room2 in
-    let room4 = room-left (status .put-status .ensures) room3 in
-    let room5 = room-left (runner .put-if .ensures) room4 in
-    let room6 = room-left (receipt .put-if2 .ensures) room5 in
-    room-last room6
+    let s = letter .before .before .before .before .before .before .before in
+    let at1 = short-next 1 (omega arith) (letter .put-field .ensures) in
+    let at2 = number .put-number .ensures .0 in
+    let at3 = short-next layout.mostLabel (s .pre .1) (label .put-field2 .ensures) in
+    let at4 = status .put-status .ensures .0 in
+    let at5 = runner .put-if .ensures .0 in
+    let at6 = receipt .put-if2 .ensures .0 in
+    omega (arith, at1, at2, at3, at4, at5, at6, s .pre .0)
 
 same-length : tie.Need-same-length
 same-length c = search needs
@@ -97,13 +101,25 @@ returns c =
     let label = status .before .before .before .before in
     let number = label .before .before .before .before in
     let letter = number .before .before .before .before in
-    let wrote7 = wrote-last (ending .put-if3 .ensures) in
-    let wrote6 = wrote-field (receipt .put-if2 .ensures) wrote7 in
-    let wrote5 = wrote-field (runner .put-if .ensures) wrote6 in
-    let wrote4 = wrote-field (status .put-status .ensures) wrote5 in
-    let wrote3 = wrote-field (label .put-field2 .ensures) wrote4 in
-    let wrote2 = wrote-field (number .put-number .ensures) wrote3 in
-    wrote-field (letter .put-field .ensures) wrote2
+    let s = letter .before .before .before .before .before .before .before in
+    let task = s .args .task in
+    let at1 = short-next 1 (omega arith) (letter .put-field .ensures) in
+    let at2 = number .put-number .ensures .0 in
+    let at3 = short-next layout.mostLabel (s .pre .1) (label .put-field2 .ensures) in
+    let at4 = status .put-status .ensures .0 in
+    let at5 = runner .put-if .ensures .0 in
+    let at6 = receipt .put-if2 .ensures .0 in
+    let at7 = ending .put-if3 .ensures .0 in (
+      omega (arith, at1, at2, at3, at4, at5, at6, at7),
+      λ x e.
+          let known = known-from running x (task .status) e in
+          let wrote7 = wrote-last (wrote-same (ending .put-if3 .ensures .1) (known-from over x (task .status) e (task .ending))) refl in
+          let wrote6 = wrote-field (wrote-same (receipt .put-if2 .ensures .1) (known (task .receipt))) wrote7 in
+          let wrote5 = wrote-field (wrote-same (runner .put-if .ensures .1) (known (task .runner))) wrote6 in
+          let wrote4 = wrote-field (status .put-status .ensures .1 x e) wrote5 in
+          let wrote3 = wrote-field (label .put-field2 .ensures) wrote4 in
+          wrote-field (letter .put-field .ensures) (wrote-field (number .put-number .ensures .1) wrote3),
+    )
 
 pub put-task-line-spec : {M : Type 1} → statement M
 put-task-line-spec =

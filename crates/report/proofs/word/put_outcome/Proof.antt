@@ -1,8 +1,9 @@
 -- `report::word::put_outcome` meets its contract. Assumes nothing.
 use mathlib.Core.Path.{ap}
-use Rattle.plan.specs.Text.{bytes}
-use Rattle.report.specs.Printed.{outcomeWord}
-use Rattle.report.proofs.Writes.{room-same, wrote-same}
+use native.Mathlib.Omega.{arith}
+use Rattle.text.specs.Text.{bytes}
+use Rattle.text.specs.WritingLaws.{short-ends, wrote-same}
+use Rattle.report.specs.Report.{outcomeName}
 use borrow.Author.Needs.{needs}
 use Rattle.report.proofs.word.put_outcome.Statement.{statement}
 use Rattle.report.proofs.word.put_outcome.Tie as tie
@@ -11,29 +12,27 @@ slice-aggregate-put-field : tie.Need-slice-aggregate-put-field
 slice-aggregate-put-field c = search needs
 
 put-field-requires : tie.Need-put-field-requires
-unfolding bytes
-put-field-requires c κs = room-same (ap outcomeWord (c .before .before .if1 .taken)) (c .before .before .before .before .pre)
+put-field-requires c κs = short-ends 8 (omega arith) (c .before .before .before .before .pre)
 
 same-length : tie.Need-same-length
 same-length c = search needs
 
 returns : tie.Need-returns
 unfolding bytes
-returns c = wrote-same (ap outcomeWord (c .before .before .before .before .before .if1 .taken)) (c .before .before .put-field .ensures)
+returns c = wrote-same (c .before .before .put-field .ensures) (ap outcomeName (c .before .before .before .before .before .if1 .taken))
 
 slice-aggregate-put-field-2 : tie.Need-slice-aggregate-put-field-2
 slice-aggregate-put-field-2 c = search needs
 
 put-field-requires-2 : tie.Need-put-field-requires-2
-unfolding bytes
-put-field-requires-2 c κs = room-same (ap outcomeWord (c .before .before .if1 .left)) (c .before .before .before .before .pre)
+put-field-requires-2 c κs = short-ends 8 (omega arith) (c .before .before .before .before .pre)
 
 same-length-2 : tie.Need-same-length-2
 same-length-2 c = search needs
 
 returns-2 : tie.Need-returns-2
 unfolding bytes
-returns-2 c = wrote-same (ap outcomeWord (c .before .before .before .before .before .if1 .left)) (c .before .before .put-field2 .ensures)
+returns-2 c = wrote-same (c .before .before .put-field2 .ensures) (ap outcomeName (c .before .before .before .before .before .if1 .left))
 
 pub put-outcome-spec : {M : Type 1} → statement M
 put-outcome-spec =

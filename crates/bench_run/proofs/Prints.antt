@@ -1,0 +1,93 @@
+-- What a run leaves in an output that is long enough is what is to be printed. Assumes nothing.
+use Prim.Native.Nat.{ℕ, _+_, _-_, _^_, _≤_}
+use mathlib.Core.Path.{_≡_, refl, ap, _∙_}
+use mathlib.Core.Bool.{Bool, true, false}
+use mathlib.Core.List.{List, _++_}
+use native.Mathlib.Omega.{arith}
+use lib.ListN.{length, take, drop, length-append}
+use lib.Seq.{sets-eq, take-append-seam}
+use borrow.Author.Tests.{le-ltb}
+use Rattle.refusals.specs.declared.Refusal.{Refusal}
+use Rattle.refusals.specs.declared.Refusal.the-variants.{TextTooLong}
+use Rattle.text.specs.Text.{line}
+use Rattle.plan.specs.Plan.{Plan}
+use Rattle.plan.specs.Reading.{Reading, accepted, refused, isTooLong, reading}
+use Rattle.refusals.specs.Number.{number}
+use Rattle.text.specs.Writing.{fields, Wrote}
+use Rattle.refusals.specs.Line.{refusalFields}
+use Rattle.bench.specs.declared.Answer.{Answer}
+use Rattle.bench.specs.declared.Answer.the-variants.{Reports, Refuses}
+use Rattle.orders.specs.Reached.{reached}
+use Rattle.report.specs.Sizes.{longest}
+use Rattle.bench.specs.Answer.{storeSize, Outcome, reportOf, refusal, written, played, run, printedFor, printed}
+use Rattle.bench_run.specs.Short.{accepted-short}
+
+abbrev noLimit : ℕ
+noLimit = 2 ^ 64 - 1
+
+-- an answer and the output after it, where these bytes are to be printed
+abbrev Prints : List ℕ → List ℕ → Answer → List ℕ → Type 0
+Prints bs output (Reports picks n) after = (n ≡ length bs) × (after ≡ bs ++ drop (length bs) output)
+Prints bs output (Refuses r n) after = (line (refusalFields (number r) n) ≡ bs) × (after ≡ output)
+
+abbrev Outputs : List ℕ → List ℕ → Outcome → Type 0
+Outputs bs output o = Prints bs output (o .answer) (o .output)
+
+module _ (store output text : List ℕ) where
+  run-long : isTooLong text ≡ true → run noLimit store output text ≡ refusal noLimit store output TextTooLong 0 store
+  unfolding run
+  run-long e = rw (e, run)
+
+  run-read : isTooLong text ≡ false → storeSize ≤ length store → run noLimit store output text ≡ played noLimit store output (reading text)
+  unfolding run
+  run-read e h = rw (e, le-ltb (length store) storeSize h, run)
+
+  reading-long : isTooLong text ≡ true → reading text ≡ refused TextTooLong 0
+  unfolding reading
+  reading-long e = rw (e, reading)
+
+  written-fits : (picks : ℕ) (bs : List ℕ) → length bs ≤ length output → Outputs bs output (written noLimit store output picks bs)
+  unfolding written
+  written-fits picks bs h = rw (le-ltb (length output) (length bs) h, written) (refl, refl)
+
+  played-prints : (x : Reading) → ((p : Plan) → x ≡ accepted p → length (reportOf p noLimit) ≤ length output)
+      → Outputs (printedFor x) output (played noLimit store output x)
+  unfolding played printedFor
+  played-prints (accepted p) h = written-fits (reached p noLimit .picks) (reportOf p noLimit) (h p refl)
+  played-prints (refused r n) h = (refl, refl)
+
+  run-prints : storeSize ≤ length store → longest ≤ length output → Outputs (printed text) output (run noLimit store output text)
+  unfolding printedFor
+  run-prints h k = go (isTooLong text) refl
+    where
+      go : (b : Bool) → isTooLong text ≡ b → Outputs (printed text) output (run noLimit store output text)
+      go true e = rw (run-long e, reading-long e) (refl, refl)
+      go false e = rw (run-read e h) (played-prints (reading text) (λ p q. omega (arith, accepted-short text p q noLimit)))
+
+-- the first n bytes of an output are bs
+abbrev Begins : ℕ → List ℕ → List ℕ → Type 0
+Begins n bs after = ((n ≤ length after) × (n ≡ length (take n after))) × (take n after ≡ bs)
+
+begins : (n : ℕ) (bs after rest : List ℕ) → n ≡ length bs → after ≡ bs ++ rest → Begins n bs after
+begins n bs after rest e q =
+    let first : take n after ≡ bs = rw (e, q) (take-append-seam bs rest) in
+    ((omega (arith, ap length q, length-append bs rest), rw first e), first)
+
+module _ (store output text : List ℕ) (h : storeSize ≤ length store) (k : longest ≤ length output) (a : Answer) (left after : List ℕ)
+    (e : record { answer = a; store = left; output = after } ≡ run noLimit store output text) where
+  ended : Prints (printed text) output a after
+  ended = rw (← e) at (run-prints store output text h k)
+
+  pub reports : (picks n : ℕ) → a ≡ Reports picks n → Begins n (printed text) after
+  reports picks n q =
+      let (x, y) : Prints (printed text) output (Reports picks n) after = rw q at ended in
+      begins n (printed text) after (drop (length (printed text)) output) x y
+
+  pub refuses : (r : Refusal) (n : ℕ) → a ≡ Refuses r n → (end : ℕ) (last : List ℕ)
+      → Wrote after 0 (fields (refusalFields (number r) n)) end last
+      → end ≤ 0 + 25 → Begins end (printed text) last
+  refuses r n q end last w short =
+      let (x, y) : Prints (printed text) output (Refuses r n) after = rw q at ended in
+      let bs = line (refusalFields (number r) n) in
+      let stored = w .stores ∙ sets-eq bs after 0 (omega (arith, w .place, ap length y)) in
+      rw x at (begins end bs last (drop (0 + length bs) after) (omega (arith, w .place)) stored)

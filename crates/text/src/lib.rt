@@ -1,0 +1,4 @@
+// Texts: see specs/ for their bytes, fields, lines and decimal numbers. Here are the writers of fields.
+
+pub mod number; // number.rt: numbers as fields
+pub mod write; // write.rt: bytes into an array
