@@ -2,17 +2,78 @@
 use mathlib.Core.Path.{_≡_, refl, ap}
 use Prim.Native.Nat.{ℕ}
 use mathlib.Core.List.{List, [], _∷_, map}
-use mathlib.Core.Bool.{true, false}
+use mathlib.Core.Bool.{Bool, true, false, cond, not, _&&_, _||_}
 use mathlib.Core.Option.{Option, none, some, Option·map}
-use lib.Dec.{eqb}
+use lib.ListN.{length}
+use lib.Dec.{eqb, leb, ltb}
+use borrow.Author.Tests.{lt-ltb, le-ltb, leb-true, leb-false}
+use Rattle.runs.specs.Every.{every}
 use Rattle.refusals.specs.declared.Refusal.{Refusal}
 use Rattle.refusals.specs.declared.Refusal.the-variants.{OutOfRange, Misplaced, TooMany, AddressTwice}
-use Rattle.text.specs.Text.{allOf, numberOf}
+use Rattle.text.specs.Text.{within, allOf, numberOf}
 use Rattle.plan.specs.Plan as plans
 use Rattle.plan.specs.Plan.{Plan, picks, rounds, seeded}
 use Rattle.plan.specs.Line.{Line, workers, task, order, isLabel, accessOf, oneNumber, withBoth, twoNumbers, withCost, labelAndCost, lineBy, lineOfFields}
-use Rattle.plan.specs.Reading.{Reading, refused, misplaced, inRange, tooMany, addressTwice, fault, add, readLine}
+use Rattle.plan.specs.Reading.{Reading, refused, atStart, hasOrders, orderInRange, repeats, asked, firstRefusal, fault, add, readLine}
 use Rattle.plan.proofs.Basics.{ways, never}
+
+-- ---- the tests of a line, by name
+
+unfoldable pub misplaced : Plan → Line → Bool
+misplaced p (workers n) = not (atStart p)
+misplaced p (task t) = atStart p || hasOrders p
+misplaced p (order o) = atStart p
+
+unfoldable pub inRange : Plan → Line → Bool
+inRange p (workers n) = within 1 32 n
+inRange p (task t) = leb (t .cost) 1000 && every (λ a. leb (a .address) 65535) (t .accesses)
+inRange p (order o) = orderInRange (p .workers) o
+
+unfoldable pub tooMany : Plan → Line → Bool
+tooMany p (workers n) = false
+tooMany p (task t) = leb 128 (length (p .tasks)) || ltb 4 (length (t .accesses))
+tooMany p (order o) = false
+
+unfoldable pub addressTwice : Line → Bool
+addressTwice (workers n) = false
+addressTwice (task t) = repeats (t .accesses)
+addressTwice (order o) = false
+
+-- a test asked the other way round
+turned : {A : Type 0} (b : Bool) (x y : A) → cond (not b) x y ≡ cond b y x
+turned true x y = refl
+turned false x y = refl
+
+below-is : (n k : ℕ) → ltb n k ≡ not (leb k n)
+below-is n k = ways (leb k n) (λ e. simp e (le-ltb n k (leb-true k n e))) (λ e. simp e (lt-ltb n k (leb-false k n e)))
+
+few-is : (n k : ℕ) → (ltb n 128 && leb k 4) ≡ not (leb 128 n || ltb 4 k)
+few-is n k = rw (below-is n 128, below-is 4 k) (join (leb 128 n) (leb k 4))
+  where
+    join : (a b : Bool) → (not a && b) ≡ not (a || not b)
+    join true b = refl
+    join false true = refl
+    join false false = refl
+
+-- the refusals of a line, in their order
+pub fault-by : (p : Plan) (l : Line)
+    → fault p l
+    ≡ cond (misplaced p l) (some Misplaced)
+    (cond (not (inRange p l)) (some OutOfRange) (cond (tooMany p l) (some TooMany) (cond (addressTwice l) (some AddressTwice) none)))
+unfolding asked firstRefusal misplaced inRange tooMany addressTwice
+fault-by p (workers n) = rw (turned (atStart p), turned (within 1 32 n))
+fault-by p (task t) =
+    let n = length (p .tasks) in
+    let k = length (t .accesses) in
+    let fine = leb (t .cost) 1000 && every (λ a. leb (a .address) 65535) (t .accesses) in
+    rw (
+      few-is n k,
+      turned (atStart p || hasOrders p),
+      turned fine,
+      turned (leb 128 n || ltb 4 k),
+      turned (repeats (t .accesses)),
+    )
+fault-by p (order o) = rw (turned (atStart p), turned (orderInRange (p .workers) o))
 
 -- ---- a line that is of its form, by its fault
 
@@ -38,8 +99,8 @@ pub record Clean (p : Plan) (m : Line) : Type 0 where
   pub apart : addressTwice m ≡ false
 
 pub clean : (p : Plan) (m : Line) → fault p m ≡ none → Clean p m
-unfolding fault
-clean p m e =
+clean p m f =
+    let e = rw (fault-by p m) at f in
     ways (misplaced p m) (λ a. let q : some Misplaced ≡ none = simp a at e in never (cc)) (λ a.
     ways (inRange p m)
     (λ b. ways (tooMany p m) (λ c. let q : some TooMany ≡ none = simp (a, b, c) at e in never (cc)) (λ c.

@@ -1,20 +1,20 @@
 -- A text that is accepted means a well-formed plan.
 use Prim.Native.Nat.{ℕ, zero, suc, _^_, _≤_, _<_}
 use mathlib.Core.Path.{_≡_, refl}
-use mathlib.Core.Bool.{Bool, true, false, cond, not, _&&_, _||_, true≢false, and-eq-true-iff}
+use mathlib.Core.Bool.{Bool, true, false, cond, _&&_, and-eq-true-iff}
 use mathlib.Core.List.{List, [], _∷_, _++_, map}
 use mathlib.Core.Option.{Option, none, some, Option·map, Option·some-ne-none}
 use native.Mathlib.Omega.{arith}
 use lib.ListN.{length, getD, length-append}
 use lib.Dec.{eqb, leb}
-use borrow.Author.Tests.{ltb-true, ltb-false, leb-true, leb-false, eqb-true, not-false}
+use borrow.Author.Tests.{ltb-true, leb-true, eqb-true, not-true}
 use Rattle.refusals.specs.declared.Refusal.{Refusal}
 use Rattle.refusals.specs.declared.Refusal.the-variants.{OutOfRange}
 use Rattle.runs.specs.Every.{every}
 use Rattle.text.specs.Text.{lineFeed, tab, within, allOf, split, numberOf}
 use Rattle.plan.specs.Plan.{Access, Task, Order, picks, rounds, seeded, Plan}
 use Rattle.plan.specs.Line.{'P', 'R', 'S', 'T', 'W', Line, workers, task, order, isLabel, accessOf, oneNumber, withBoth, twoNumbers, withCost, labelAndCost, lineBy, lineOfFields, lineOf}
-use Rattle.plan.specs.Reading.{Reading, accepted, refused, atStart, misplaced, orderInRange, inRange, tooMany, repeats, addressTwice, fault, add, readLine, readEnd, readLines, emptyPlan, isTooLong, reading}
+use Rattle.plan.specs.Reading.{Reading, accepted, refused, atStart, orderInRange, repeats, Ask, asked, firstRefusal, fault, add, readLine, readEnd, readLines, emptyPlan, isTooLong, reading}
 
 -- each element of a list, by its number
 abbrev pub Each : {A : Type 0} → (A → Type 0) → List A → Type 0
@@ -44,10 +44,6 @@ pub record WellFormed (p : Plan) : Type 0 where
 
 both : (a b : Bool) → a && b ≡ true → (a ≡ true) × (b ≡ true)
 both a b = and-eq-true-iff a b .0
-
-pub neither : (a b : Bool) → a || b ≡ false → (a ≡ false) × (b ≡ false)
-neither true b e = absurd (true≢false e)
-neither false b e = (refl, e)
 
 pub every-each : {A : Type 0} (f : A → Bool) (xs : List A) → every f xs ≡ true → Each (λ x. f x ≡ true) xs
 unfolding every
@@ -126,24 +122,20 @@ labelled-fields ((letter ∷ b ∷ bs) ∷ fields) = tt
 
 -- ---- a line that is added
 
--- the tests that a line without a fault passes
-record Passes (p : Plan) (l : Line) : Type 0 where
-  placed : misplaced p l ≡ false
-  ranged : inRange p l ≡ true
-  few : tooMany p l ≡ false
-  once : addressTwice l ≡ false
+-- all that is asked holds, where there is no fault
+abbrev Granted : List Ask → Type 0
+Granted [] = Unit {0}
+Granted (a ∷ asks) = (a .holds ≡ true) × Granted asks
 
-faultless : (b : Bool) (r : Refusal) (x : Option Refusal) → cond b (some r) x ≡ none → (b ≡ false) × (x ≡ none)
-faultless true r x e = absurd (Option·some-ne-none r e)
-faultless false r x e = (refl, e)
-
-passes : (p : Plan) (l : Line) → fault p l ≡ none → Passes p l
-unfolding fault
-passes p l e =
-    let (a, f) = faultless _ _ _ e in
-    let (b, g) = faultless _ _ _ f in
-    let (c, h) = faultless _ _ _ g in
-    record { placed = a; ranged = not-false _ b; few = c; once = (faultless _ _ _ h) .0 }
+granted : (asks : List Ask) → firstRefusal asks ≡ none → Granted asks
+unfolding firstRefusal
+granted [] e = tt
+granted (a ∷ asks) e = go (a .holds) refl e (granted asks)
+  where
+    go : (b : Bool) → a .holds ≡ b → cond b (firstRefusal asks) (some (a .otherwise)) ≡ none
+        → (firstRefusal asks ≡ none → Granted asks) → (a .holds ≡ true) × Granted asks
+    go true h e rest = (h, rest e)
+    go false h e rest = absurd (Option·some-ne-none (a .otherwise) e)
 
 order-formed : (W : ℕ) (o : Order) → orderInRange W o ≡ true → OrderFormed W o
 order-formed W (picks worker n) e = let (a, b) = both _ _ e in let (l, h) = within-bounds 1 4096 n b in (ltb-true _ _ a, l, h)
@@ -151,25 +143,25 @@ order-formed W (rounds n) e = within-bounds 1 1000000 n e
 order-formed W (seeded seed n) e = let (a, b) = both _ _ e in let (l, h) = within-bounds 1 1000000 n b in (ltb-true _ _ a, l, h)
 
 -- a plan with its W line stays well formed
-kept : (p : Plan) (l : Line) → WellFormed p → Labelled (some l) → Passes p l → WellFormed (add p l)
-unfolding misplaced inRange tooMany addressTwice
-kept p (workers n) h a f = absurd (omega (arith, h .workers-some, eqb-true (p .workers) 0 (not-false _ (f .placed))))
+kept : (p : Plan) (l : Line) → WellFormed p → Labelled (some l) → Granted (asked p l) → WellFormed (add p l)
+unfolding asked
+kept p (workers n) h a f = absurd (omega (arith, h .workers-some, eqb-true (p .workers) 0 (f .0)))
 kept p (task t) h (some-label, short-label) f =
-    let (low-cost, low-addresses) = both _ _ (f .ranged) in
-    let (few-tasks, few-accesses) = neither _ _ (f .few) in
+    let (low-cost, low-addresses) = both _ _ (f .1 .0) in
+    let (few-tasks, few-accesses) = both _ _ (f .1 .1 .0) in
     record {
       workers-some = h .workers-some;
       workers-few = h .workers-few;
-      tasks-few = omega (arith, length-append (p .tasks) (t ∷ []), leb-false 128 (length (p .tasks)) few-tasks);
+      tasks-few = omega (arith, length-append (p .tasks) (t ∷ []), ltb-true (length (p .tasks)) 128 few-tasks);
       tasks =
           each-more TaskFormed (p .tasks) t (h .tasks)
           (record {
             label-some = some-label;
             label-short = short-label;
             cost-low = leb-true _ _ low-cost;
-            accesses-few = ltb-false 4 (length (t .accesses)) few-accesses;
+            accesses-few = leb-true (length (t .accesses)) 4 few-accesses;
             addresses-low = λ i l d. leb-true _ _ (every-each (λ a. leb (a .address) 65535) (t .accesses) low-addresses i l d);
-            addresses-once = f .once;
+            addresses-once = not-true (repeats (t .accesses)) (f .1 .1 .1 .0);
           });
       orders = h .orders;
     }
@@ -179,7 +171,7 @@ kept p (order o) h a f =
       workers-few = h .workers-few;
       tasks-few = h .tasks-few;
       tasks = h .tasks;
-      orders = each-more (OrderFormed (p .workers)) (p .orders) o (h .orders) (order-formed (p .workers) o (f .ranged));
+      orders = each-more (OrderFormed (p .workers)) (p .orders) o (h .orders) (order-formed (p .workers) o (f .1 .0));
     }
 
 -- ---- line after line
@@ -197,7 +189,7 @@ sound-line p n none next h a k = tt
 sound-line p n (some l) next h a k = go (fault p l) refl
   where
     go : (x : Option Refusal) → fault p l ≡ x → Sound (elim x [ none ↦ next (add p l) | some r ↦ refused r n ])
-    go none e = k (add p l) (kept p l h a (passes p l e))
+    go none e = k (add p l) (kept p l h a (granted (asked p l) e))
     go (some r) e = tt
 
 sound-end : (p : Plan) (n : ℕ) (part : List ℕ) → WellFormed p → Sound (readEnd p n part)
@@ -212,11 +204,11 @@ sound-lines (part ∷ next ∷ parts) p n h = sound-line p n (lineOf part) _ h (
 
 -- the first line is a W line
 first-line : (x : Option Line) (next : Plan → Reading) → ((q : Plan) → WellFormed q → Sound (next q)) → Sound (readLine emptyPlan 1 x next)
-unfolding fault misplaced inRange tooMany addressTwice
+unfolding asked firstRefusal
 first-line none next k = tt
 first-line (some (workers n)) next k = go (within 1 32 n) refl
   where
-    go : (b : Bool) → within 1 32 n ≡ b → Sound (elim (cond {A = Option Refusal} (not b) (some OutOfRange) none) [ none ↦ next (add emptyPlan (workers n)) | some r ↦ refused r 1 ])
+    go : (b : Bool) → within 1 32 n ≡ b → Sound (elim (cond {A = Option Refusal} b none (some OutOfRange)) [ none ↦ next (add emptyPlan (workers n)) | some r ↦ refused r 1 ])
     go true e =
         let (low, high) = within-bounds 1 32 n e in
         k (add emptyPlan (workers n))

@@ -25,45 +25,41 @@ atStart p = eqb (p .workers) 0
 abbrev pub hasOrders : Plan → Bool
 hasOrders p = ltb 0 (length (p .orders))
 
--- W not first or again, T after an order line
-unfoldable pub misplaced : Plan → Line → Bool
-misplaced p (workers n) = not (atStart p)
-misplaced p (task t) = atStart p || hasOrders p
-misplaced p (order o) = atStart p
-
 abbrev pub orderInRange : ℕ → Order → Bool
 orderInRange W (picks worker n) = ltb worker W && within 1 4096 n
 orderInRange W (rounds n) = within 1 1000000 n
 orderInRange W (seeded seed n) = ltb seed (2 ^ 64) && within 1 1000000 n
-
-unfoldable pub inRange : Plan → Line → Bool
-inRange p (workers n) = within 1 32 n
-inRange p (task t) = leb (t .cost) 1000 && every (λ a. leb (a .address) 65535) (t .accesses)
-inRange p (order o) = orderInRange (p .workers) o
-
--- a 129th task or a fifth access
-unfoldable pub tooMany : Plan → Line → Bool
-tooMany p (workers n) = false
-tooMany p (task t) = leb 128 (length (p .tasks)) || ltb 4 (length (t .accesses))
-tooMany p (order o) = false
 
 -- an address stands twice in a row of accesses
 unfoldable pub repeats : List Access → Bool
 repeats [] = false
 repeats (a ∷ xs) = not (every (λ b. not (eqb (a .address) (b .address))) xs) || repeats xs
 
-unfoldable pub addressTwice : Line → Bool
-addressTwice (workers n) = false
-addressTwice (task t) = repeats (t .accesses)
-addressTwice (order o) = false
+-- what must hold, and the refusal where it does not
+pub record Ask : Type 0 where
+  pub holds : Bool
+  pub otherwise : Refusal
 
--- the refusals of such a line, in their order
-unfoldable pub fault : Plan → Line → Option Refusal
-fault p l =
-    cond (misplaced p l) (some Misplaced)
-    (cond (not (inRange p l)) (some OutOfRange)
-    (cond (tooMany p l) (some TooMany)
-    (cond (addressTwice l) (some AddressTwice) none)))
+abbrev pub ask : Bool → Refusal → Ask
+ask holds otherwise = record { holds = holds; otherwise = otherwise }
+
+-- what is asked of a line of each kind, in this order: its place, its ranges and, of a task, its limits
+unfoldable pub asked : Plan → Line → List Ask
+asked p (workers n) = ask (atStart p) Misplaced ∷ ask (within 1 32 n) OutOfRange ∷ []
+asked p (task t) =
+    ask (not (atStart p || hasOrders p)) Misplaced
+    ∷ ask (leb (t .cost) 1000 && every (λ a. leb (a .address) 65535) (t .accesses)) OutOfRange
+    ∷ ask (ltb (length (p .tasks)) 128 && leb (length (t .accesses)) 4) TooMany
+    ∷ ask (not (repeats (t .accesses))) AddressTwice ∷ []
+asked p (order o) = ask (not (atStart p)) Misplaced ∷ ask (orderInRange (p .workers) o) OutOfRange ∷ []
+
+-- the refusal of the first that does not hold
+unfoldable pub firstRefusal : List Ask → Option Refusal
+firstRefusal [] = none
+firstRefusal (a ∷ asks) = cond (a .holds) (firstRefusal asks) (some (a .otherwise))
+
+abbrev pub fault : Plan → Line → Option Refusal
+fault p l = firstRefusal (asked p l)
 
 -- p with one line more
 abbrev pub add : Plan → Line → Plan

@@ -23,7 +23,8 @@ use Rattle.runs.specs.Every.{every}
 use Rattle.text.specs.Text.{within, allOf, numberOf}
 use Rattle.plan.specs.Plan.{Access, picks, rounds, seeded, Plan}
 use Rattle.plan.specs.Line.{Line, workers, task, order, isLabel, accessOf, oneNumber, withBoth, twoNumbers, withCost, labelAndCost, lineBy, lineOfFields}
-use Rattle.plan.specs.Reading.{hasOrders, misplaced, inRange, tooMany, repeats, addressTwice, fault}
+use Rattle.plan.specs.Reading.{hasOrders, repeats, fault}
+use Rattle.plan.proofs.Faults.{misplaced, inRange, tooMany, addressTwice, fault-by}
 use Rattle.plan.specs.PassFields.{clipped, numberIs, accessIs, kindOf, letterItem, itemOf}
 use Rattle.reader.specs.PassLines.{wanted, isWhole, unread, begun, holding, isMisplaced, limitsOf, judged, accessesIn}
 use Rattle.plan.proofs.Basics.{ways, both-left, both-right, or-right, not-both}
@@ -79,10 +80,12 @@ abbrev pub judgedAfter : Plan → Hand → Fault
 judgedAfter p h = judged (p .workers) (hasOrders p) (length (p .tasks)) h
 
 pub like-judged : (p : Plan) (h : Hand) (l : Line) → Like p h l → judgedAfter p h ≡ asFault (fault p l)
-unfolding judged fault
+unfolding judged
 like-judged p h l k =
-    ways (misplaced p l) (λ e. simp (k .whole, k .place, e)) (λ e.
-    ways (inRange p l) (λ r. simp (k .whole, k .place, e) (simp (k .range, r) (k .limits r))) (λ r. simp (k .whole, k .place, e) (simp (k .range, r))))
+    rw (fault-by p l)
+    (ways (misplaced p l) (λ e. simp (k .whole, k .place, e)) (λ e.
+    ways (inRange p l) (λ r. simp (k .whole, k .place, e) (simp (k .range, r) (k .limits r)))
+    (λ r. simp (k .whole, k .place, e) (simp (k .range, r)))))
 
 -- what fields come to, by the definition and in hand
 abbrev pub Alike : Plan → Option Line → Option Hand → Type 0

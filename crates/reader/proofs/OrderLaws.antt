@@ -26,7 +26,8 @@ use Rattle.reader.specs.declared.order.OrderHand.{OrderHand}
 use Rattle.text.specs.Text.{split, numberOf}
 use Rattle.plan.specs.Plan.{Plan, Order, Access, picks, rounds, seeded}
 use Rattle.plan.specs.Line.{Line, workers, task, order, isLabel, accessOf, lineOf}
-use Rattle.plan.specs.Reading.{orderInRange, inRange, tooMany}
+use Rattle.plan.specs.Reading.{orderInRange}
+use Rattle.plan.proofs.Faults.{inRange, tooMany}
 use Rattle.plan.specs.PassFields.{Cut, endless, cut, fieldOf, answer, fieldIs, asField, itemOf, letterItem, numberIs, accessIs, asNumber, numberField}
 use Rattle.reader.specs.PassLines.{wanted, isWhole, unread, begun, holding}
 use Rattle.reader.specs.PassTexts.{orderThen, ordersIn, ordersFrom}

@@ -29,13 +29,13 @@ use Rattle.text.specs.Text.{split}
 use Rattle.plan.specs.Plan as plans
 use Rattle.plan.specs.Plan.{Plan, Order, picks, rounds, seeded}
 use Rattle.plan.specs.Line.{Line, workers, task, order, lineOf}
-use Rattle.plan.specs.Reading.{Reading, accepted, refused, atStart, hasOrders, misplaced, inRange, tooMany, fault, add, readLine, readLines, emptyPlan, reading}
+use Rattle.plan.specs.Reading.{Reading, accepted, refused, atStart, hasOrders, fault, add, readLine, readLines, emptyPlan, reading}
 use Rattle.plan.specs.PassFields.{Cut, endless, cut, fieldOf, answer, fieldIs, asField, itemOf}
 use Rattle.reader.specs.PassLines.{wanted, isTask, unread, holding, judged, accessesIn}
 use Rattle.reader.specs.PassTexts.{emptyRow, rowIn, taskIn, sizedIn, sized, labelAt, orderThen, ordersIn, ordersFrom, noLines, linesBy, plusLine, noPlan}
 use Rattle.reader.specs.Verdict.{verdict, Gives}
 use Rattle.plan.proofs.Basics.{never, clash, both-right, or-left, or-right}
-use Rattle.plan.proofs.Faults.{fault-some, fault-none, Clean, clean, task-shape}
+use Rattle.plan.proofs.Faults.{misplaced, inRange, tooMany, fault-some, fault-none, Clean, clean, task-shape}
 use Rattle.reader.proofs.Lines.{then, finish, lineKind, Same, asFault, Like, like-judged, judgedAfter, Alike, alike}
 use Rattle.reader.proofs.Splits.{some-part, Splits, splits, Ends, ends, part-only, second-field}
 

@@ -1,7 +1,7 @@
 // Reads plan texts: see the specs of `plan` for what a text means, and specs/Verdict.antt here for what is answered.
 ghost use mathlib.Core.Path.{_≡_};
 ghost use Prim.Native.Nat.{_+_, _≤_, _<_};
-ghost use lib.ListN.{length, take, drop};
+ghost use lib.ListN.{length, drop};
 ghost use Rattle.plan.specs.Reading.{reading};
 ghost use Rattle.reader.specs.Verdict.{verdict, Gives};
 ghost use Rattle.reader.specs.PassLines.{wanted};

@@ -8,7 +8,7 @@ use native.Mathlib.Numerals.{add-one}
 use native.Mathlib.Omega.{arith}
 use lib.ListN.{length, take, drop, length-take}
 use lib.Seq.{take-length}
-use Rattle.text.specs.Writing.{text, fields, Wrote}
+use Rattle.text.specs.Writing.{plain, fields, Wrote}
 use Rattle.text.specs.WritingLaws.{wrote-none, wrote-then}
 use Rattle.plan.specs.Plan.{Task}
 use Rattle.tasks.specs.Accesses.{taskAt}
@@ -70,14 +70,14 @@ module _ {c : Setup} {s : State} {summary : Summary} {table places bs : List ℕ
 
   -- the lines of the first i tasks, and one more
   module _ {out : List ℕ} {at : ℕ} where
-    pub first-none : Wrote out at (text (taskLines c s 0 (take 0 (c .tasks)))) at out
+    pub first-none : Wrote out at (plain (taskLines c s 0 (take 0 (c .tasks)))) at out
     unfolding taskLines
     first-none = wrote-none
 
     pub first-more : (i : ℕ) → i < summary .tasks → {next : ℕ} {after : List ℕ}
-        → Wrote out at (text (taskLines c s 0 (take i (c .tasks)))) next after
+        → Wrote out at (plain (taskLines c s 0 (take i (c .tasks)))) next after
         → {end : ℕ} {last : List ℕ} → (TaskShown c s table places bs i → Wrote after next (fields (fieldsOf c s i)) end last)
-        → Wrote out at (text (taskLines c s 0 (take (i + 1) (c .tasks)))) end last
+        → Wrote out at (plain (taskLines c s 0 (take (i + 1) (c .tasks)))) end last
     first-more i h w v =
         let z : 0 + i ≡ i = omega arith in
         let here : i < length (c .tasks) = omega (arith, shown .count) in
@@ -86,16 +86,16 @@ module _ {c : Setup} {s : State} {summary : Summary} {table places bs : List ℕ
   -- the first line, those of all tasks, and the last
   pub wrote-report : (i : ℕ) {out mid after last : List ℕ} {at next end : ℕ}
       → Wrote out 0 (fields (outcomeFields (summary .finished) (summary .picks))) at mid
-      → Wrote mid at (text (taskLines c s 0 (take i (c .tasks)))) next after → i ≡ summary .tasks
+      → Wrote mid at (plain (taskLines c s 0 (take i (c .tasks)))) next after → i ≡ summary .tasks
       → ((o : Option ℕ) → optionCode o ≡ summary .owner
       → Wrote after next (fields (lockFields (summary .head) (summary .tail) o)) end last)
-      → Wrote out 0 (text (report c s)) end last
+      → Wrote out 0 (plain (report c s)) end last
   unfolding report
   wrote-report i {out} {mid} {after} {last} {at} {next} {end} u v e w =
       let all : take (summary .tasks) (c .tasks) ≡ c .tasks = rw (shown .count) (take-length (c .tasks)) in
       let first : Wrote out 0 (fields (outcomeFields (finished c s) (s .picks))) at mid = rw (shown .finished, shown .picks) at u in
-      let lines : Wrote mid at (text (taskLines c s 0 (c .tasks))) next after = rw (e, all) at v in
+      let lines : Wrote mid at (plain (taskLines c s 0 (c .tasks))) next after = rw (e, all) at v in
       let lock : Wrote after next (fields (lockFields (s .lock .head) (s .lock .tail) (owner c s))) end last =
       rw (shown .head, shown .tail) at (w (owner c s) (sym (shown .owner))) in
-      let both : Wrote out 0 (text (outcomeLine c s ++ taskLines c s 0 (c .tasks))) next after = wrote-then first refl lines in
+      let both : Wrote out 0 (plain (outcomeLine c s ++ taskLines c s 0 (c .tasks))) next after = wrote-then first refl lines in
       wrote-then both refl lock

@@ -2,7 +2,7 @@
 ghost use mathlib.Core.Path.{_≡_};
 ghost use Prim.Native.Nat.{ℕ, _+_, _^_, _≤_, _<_};
 ghost use lib.ListN.{length};
-ghost use Rattle.text.specs.Writing.{text as bytes, fields, Wrote};
+ghost use Rattle.text.specs.Writing.{plain, fields, Wrote};
 ghost use Rattle.machine.specs.State.{Setup, State};
 ghost use Rattle.memory.specs.Layout as layout;
 ghost use Rattle.memory.specs.Labels.{labelAt};
@@ -60,7 +60,7 @@ pub fn put_report(
     requires { ⌜ (length (now tasks) ≡ layout.taskRows) × (length (now labels) ≡ layout.labelRows) × (summary .tasks ≤ layout.mostTasks)
         × ((i : ℕ) → i < summary .tasks → labelAt (now labels) i .size ≤ layout.mostLabel) ⌝ }
     ensures { λ r. ⌜ ((c : Setup) (s : State) → Shown c s summary (now (tasks .entry)) (now (labels .entry)) (now (text .entry))
-        → Wrote (now (output .entry)) 0 (bytes (report c s)) r (now (output .exit))) ⌝ }
+        → Wrote (now (output .entry)) 0 (plain (report c s)) r (now (output .exit))) ⌝ }
 {
     let n = summary.tasks as usize;
     let mut next = put_outcome_line(summary.finished, summary.picks, output, 0);

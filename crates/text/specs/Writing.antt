@@ -9,12 +9,12 @@ use Rattle.text.specs.Text.{line}
 
 -- what is written: bytes, a field with the tab or the line feed after it, or the fields of a line
 pub data Said : Type 0 where
-  text : List ℕ → Said
+  plain : List ℕ → Said
   field : List ℕ → ℕ → Said
   fields : List (List ℕ) → Said
 
 abbrev pub said : Said → List ℕ
-said (text bs) = bs
+said (plain bs) = bs
 said (field f end) = f ++ end ∷ []
 said (fields fs) = line fs
 

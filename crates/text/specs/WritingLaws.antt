@@ -8,7 +8,7 @@ use native.Mathlib.Numerals.{add-one}
 use lib.ListN.{length, take, drop, getD, set, length-append}
 use lib.Seq.{sets, sets-eq, length-sets, take-suc, length-take-le, set-out}
 use Rattle.text.specs.Text.{tab, lineFeed, line}
-use Rattle.text.specs.Writing.{Said, text, field, fields, said, Ends, Wrote}
+use Rattle.text.specs.Writing.{Said, plain, field, fields, said, Ends, Wrote}
 
 sets-append : (xs ys l : List ℕ) (i : ℕ) → sets l i (xs ++ ys) ≡ sets (sets l i xs) (i + length xs) ys
 sets-append [] ys l i = ap (λ (k : ℕ). sets l k ys) (sym (add-zero i))
@@ -17,7 +17,7 @@ sets-append (x ∷ xs) ys l i =
     sets-append xs ys (set l i x) (suc i) ∙ ap (λ (k : ℕ). sets (sets (set l i x) (suc i) xs) k ys) e
 
 -- nothing is written
-pub wrote-none : {out : List ℕ} {at : ℕ} → Wrote out at (text []) at out
+pub wrote-none : {out : List ℕ} {at : ℕ} → Wrote out at (plain []) at out
 wrote-none {at = at} = record { place = sym (add-zero at); stores = refl }
 
 -- the same bytes, said in another way
@@ -58,21 +58,21 @@ module _ {out : List ℕ} {at : ℕ} {x : Said} {next : ℕ} {mid : List ℕ} (w
 
 -- a byte, where the array reaches and where it has ended
 module _ {out : List ℕ} {at byte : ℕ} where
-  pub wrote-inside : Wrote out at (text (byte ∷ [])) (at + 1) (set out at byte)
+  pub wrote-inside : Wrote out at (plain (byte ∷ [])) (at + 1) (set out at byte)
   wrote-inside = record { place = refl; stores = refl }
 
-  pub wrote-outside : length out ≤ at → Wrote out at (text (byte ∷ [])) (at + 1) out
+  pub wrote-outside : length out ≤ at → Wrote out at (plain (byte ∷ [])) (at + 1) out
   wrote-outside h = record { place = refl; stores = sym (set-out out at byte h) }
 
 pub record Copied (bytes out : List ℕ) (at : ℕ) (after : List ℕ) (next i : ℕ) : Type 0 where
   pub inside : i ≤ length bytes
-  pub wrote : Wrote out at (text (take i bytes)) next after
+  pub wrote : Wrote out at (plain (take i bytes)) next after
 
 pub copied-place : {bytes out : List ℕ} {at : ℕ} {after : List ℕ} {next i : ℕ} → Copied bytes out at after next i → next ≡ at + i
 copied-place {bytes} {i = i} h = h .wrote .place ∙ omega (arith, length-take-le i bytes (h .inside))
 
 pub copied-more : {bytes out : List ℕ} {at : ℕ} {after : List ℕ} {next i next' : ℕ} {after' : List ℕ}
-    → Copied bytes out at after next i → i < length bytes → Wrote after next (text (getD bytes i 0 ∷ [])) next' after'
+    → Copied bytes out at after next i → i < length bytes → Wrote after next (plain (getD bytes i 0 ∷ [])) next' after'
     → Copied bytes out at after' next' (i + 1)
 copied-more {bytes} {i = i} h k byte =
     record { inside = omega arith; wrote = wrote-then (h .wrote) (rw (add-one i, take-suc bytes i 0 k)) byte }
@@ -111,7 +111,7 @@ pub counted : (after : List ℕ) {at : ℕ} {x : Said} {next : ℕ} → Wrote []
 counted [] w = refl
 counted (b ∷ bs) w = absurd (omega (arith, wrote-length w))
 
-module _ {bs out : List ℕ} {n : ℕ} {after : List ℕ} (w : Wrote out 0 (text bs) n after) where
+module _ {bs out : List ℕ} {n : ℕ} {after : List ℕ} (w : Wrote out 0 (plain bs) n after) where
   pub told-length : n ≡ length bs
   told-length = w .place ∙ zero-add (length bs)
 

@@ -2,13 +2,13 @@
 ghost use Prim.Native.Nat.{_+_, _^_, _≤_, _<_};
 ghost use Rattle.text.specs.Text.{decimal, numberIf};
 ghost use Rattle.text.specs.Decimals.{numberSize};
-ghost use Rattle.text.specs.Writing.{text, field, Ends, Wrote};
+ghost use Rattle.text.specs.Writing.{plain, field, Ends, Wrote};
 use crate::write::put_byte;
 use crate::write::put_field;
 
 pub fn put_digits(n: u64, out: &mut [u8], at: usize) -> usize
-    requires { ⌜ Ends at (text (decimal n)) ⌝ }
-    ensures { λ r. ⌜ Wrote (now (out .entry)) at (text (decimal n)) r (now (out .exit)) ⌝ }
+    requires { ⌜ Ends at (plain (decimal n)) ⌝ }
+    ensures { λ r. ⌜ Wrote (now (out .entry)) at (plain (decimal n)) r (now (out .exit)) ⌝ }
 {
     let last = (48 + n % 10) as u8;
     if n < 10 {

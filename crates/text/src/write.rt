@@ -1,10 +1,10 @@
 // Bytes written into an array from a place on, as far as it reaches; each function answers the place after them.
 ghost use mathlib.Core.List.{[], _∷_};
-ghost use Rattle.text.specs.Writing.{text, field, Ends, Wrote};
+ghost use Rattle.text.specs.Writing.{plain, field, Ends, Wrote};
 
 pub fn put_byte(byte: u8, out: &mut [u8], at: usize) -> usize
-    requires { ⌜ Ends at (text (byte ∷ [])) ⌝ }
-    ensures { λ r. ⌜ Wrote (now (out .entry)) at (text (byte ∷ [])) r (now (out .exit)) ⌝ }
+    requires { ⌜ Ends at (plain (byte ∷ [])) ⌝ }
+    ensures { λ r. ⌜ Wrote (now (out .entry)) at (plain (byte ∷ [])) r (now (out .exit)) ⌝ }
 {
     if out.len() <= at {
         return at + 1;
@@ -14,8 +14,8 @@ pub fn put_byte(byte: u8, out: &mut [u8], at: usize) -> usize
 }
 
 pub fn put_bytes(bytes: &[u8], out: &mut [u8], at: usize) -> usize
-    requires { ⌜ Ends at (text (now bytes)) ⌝ }
-    ensures { λ r. ⌜ Wrote (now (out .entry)) at (text (now (bytes .entry))) r (now (out .exit)) ⌝ }
+    requires { ⌜ Ends at (plain (now bytes)) ⌝ }
+    ensures { λ r. ⌜ Wrote (now (out .entry)) at (plain (now (bytes .entry))) r (now (out .exit)) ⌝ }
 {
     let mut next = at;
     let mut i: usize = 0;

@@ -5,7 +5,7 @@ use Prim.Native.Nat.{_+_, _*_, _-_, _≤_}
 use mathlib.Core.Path.{_≡_, refl}
 use native.Mathlib.Omega.{arith}
 use lib.ListN.{length, take}
-use Rattle.text.specs.Writing.{text as bytes, Wrote}
+use Rattle.text.specs.Writing.{plain, Wrote}
 use Rattle.machine.specs.State.{Setup, State}
 use Rattle.report.specs.Report.{taskLines}
 use Rattle.report.specs.Shown.{Shown}
@@ -19,7 +19,7 @@ abbrev Inv-loop : tie.InvT-loop
 Inv-loop summary text tasks labels output₀ n next₀ i₀ output next i =
     (i ≤ n) × (length output ≡ length output₀) × (next ≤ outcomeLineSize + taskLineSize * i)
     × ((c : Setup) (s : State) → Shown c s summary tasks labels text
-    → Wrote output₀ next₀ (bytes (taskLines c s 0 (take i (c .tasks)))) next output)
+    → Wrote output₀ next₀ (plain (taskLines c s 0 (take i (c .tasks)))) next output)
 
 abbrev μ-loop : tie.MeasureT-loop
 μ-loop summary text tasks labels output₀ n next₀ i₀ output next i = n - i

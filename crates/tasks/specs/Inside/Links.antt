@@ -2,7 +2,7 @@
 use Prim.Native.Nat.{ℕ, zero, suc, _+_, _-_, _≤_, _<_}
 use mathlib.Core.Path.{_≡_, refl, sym, ap, _∙_}
 use mathlib.Core.Logic.{⊎-elim, _≢_}
-use mathlib.Core.Bool.{Bool, true, false, not, cond}
+use mathlib.Core.Bool.{Bool, true, false, not, cond, _||_, true≢false}
 use mathlib.Core.List.{List, [], _∷_, _++_}
 use mathlib.Core.Option.{Option, none, some}
 use native.Mathlib.Omega.{arith}
@@ -14,7 +14,7 @@ use Rattle.runs.specs.Update.{same, by-order}
 use Rattle.runs.specs.Every.{every}
 use Rattle.plan.specs.Plan.{Access, Task}
 use Rattle.plan.specs.Reading.{repeats}
-use Rattle.plan.specs.Accepted.{Each, every-each, neither}
+use Rattle.plan.specs.Accepted.{Each, every-each}
 use Rattle.runs.specs.Searches.{lastBelow, firstFrom}
 use Rattle.tasks.specs.Accesses.{noAccess, Distinct, accesses, taskOf, taskAt, accessAt, first, reader}
 use Rattle.tasks.specs.Accesses.{sameAddress, prev, next, total, addr}
@@ -110,6 +110,10 @@ access-of ts i k l h =
     ∙ ap (λ x. getD (taskAt ts i .accesses) x noAccess) (omega arith)
 
 -- ---- different addresses
+
+neither : (a b : Bool) → a || b ≡ false → (a ≡ false) × (b ≡ false)
+neither true b e = absurd (true≢false e)
+neither false b e = (refl, e)
 
 repeats-not : (a : Access) (xs : List Access) → repeats (a ∷ xs) ≡ false → Each (λ b. a .address ≢ b .address) xs × (repeats xs ≡ false)
 unfolding repeats

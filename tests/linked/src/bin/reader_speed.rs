@@ -1,17 +1,43 @@
-//! reader_speed: the proved reader beside the second implementation's on the
-//! same plans of 65,536 bytes, in one run. Neither clears any buffer between.
+//! reader_speed: the proved check beside the second implementation's on the
+//! same texts, in one run: plans of 65,536 bytes, and short texts, accepted
+//! and refused in their last line. Neither clears any buffer between.
 
 use second::random::{plan, Rng, Shape};
 use std::hint::black_box;
 use std::time::Instant;
 
+/// Calls that one measured time of a short text holds.
+const CALLS: usize = 10_000;
+
 /// The time of a pass over all texts, in seconds.
-fn pass(texts: &[Vec<u8>], read: impl Fn(&[u8]) -> bool) -> f64 {
+fn pass(texts: &[Vec<u8>], accepted: bool, read: impl Fn(&[u8]) -> bool) -> f64 {
     let start = Instant::now();
     for text in texts {
-        assert!(black_box(read(black_box(text))));
+        assert_eq!(black_box(read(black_box(text))), accepted);
     }
     start.elapsed().as_secs_f64()
+}
+
+/// In turn, and the shortest pass of each: what else the machine does then
+/// counts for both.
+fn shortest(texts: &[Vec<u8>], accepted: bool) -> (f64, f64) {
+    let (mut proved, mut second) = (f64::MAX, f64::MAX);
+    for _ in 0..300 {
+        proved = proved.min(pass(texts, accepted, |text| {
+            linked::bench::check(text).is_ok()
+        }));
+        second = second.min(pass(texts, accepted, |text| {
+            second::plan::check(text).is_ok()
+        }));
+    }
+    (proved, second)
+}
+
+/// A plan of 100 bytes.
+fn short() -> Vec<u8> {
+    let text = b"W\t4\nT\tloading\t20\tw7\nT\tstep\t300\tr7\tw8\nT\tsaving\t15\tr8\nP\t0\t40\nR\t100\nS\t18446744073709551615\t1000\nP\t3\t40\n";
+    assert_eq!(text.len(), 100);
+    text.to_vec()
 }
 
 fn main() {
@@ -24,13 +50,25 @@ fn main() {
         }
     }
     let bytes = (texts.len() * 65_536) as f64;
-    // in turn, and the shortest pass of each: what else the machine does then counts for both
-    let (mut proved, mut second) = (f64::MAX, f64::MAX);
-    for _ in 0..300 {
-        proved = proved.min(pass(&texts, |text| linked::bench::check(text).is_ok()));
-        second = second.min(pass(&texts, |text| second::plan::check(text).is_ok()));
-    }
+    let (proved, second) = shortest(&texts, true);
     println!("proved reader:         {:7.1} MB/s", bytes / proved / 1e6);
     println!("second implementation: {:7.1} MB/s", bytes / second / 1e6);
     println!("ratio of times:        {:7.2}", proved / second);
+
+    let accepted = short();
+    let mut refused = short();
+    *refused.last_mut().expect("a byte") = b' ';
+    for (name, text, ok) in [
+        ("100 bytes, accepted", accepted, true),
+        ("100 bytes, refused in the last line", refused, false),
+    ] {
+        let (proved, second) = shortest(&vec![text; CALLS], ok);
+        let each = |time: f64| time / CALLS as f64 * 1e9;
+        println!(
+            "{name}: {:.0} ns, second implementation {:.0} ns, ratio {:.2}",
+            each(proved),
+            each(second),
+            proved / second
+        );
+    }
 }

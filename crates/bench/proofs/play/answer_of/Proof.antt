@@ -81,12 +81,11 @@ returns-2 c m d s limit left labels holds =
     let size = told-length put in
     let enough : length (report d s) ≤ length (args .output .now) =
     omega (arith, size, rw (counted _ put) at (second .before .before .if1 .left)) in
-    long-enough (args .n) (args .store .now) (sum .result) (sum .ensures) m d s
+    let whole = wrote-whole (rw (counted _ put) at (second .put-report2 .ensures d s is)) enough in
+    let told = long-enough (args .n) (args .store .now) (sum .result) (sum .ensures) m d s
     (args .rows .now) (args .text .now) (args .labels .now) labels holds
-    limit left (args .output .now) _ _
-    enough
-    size
-    (wrote-whole (rw (counted _ put) at (second .put-report2 .ensures d s is)) enough)
+    limit left (args .output .now) _ _ enough size whole in
+    told
 
 pub answer-of-spec : {M : Type 1} → statement M
 answer-of-spec =
