@@ -1,8 +1,9 @@
 -- Lists taken apart by their length, and runs of stores into a list.
 use Prim.Native.Nat.{ℕ, zero, suc, _+_, _≤_, _<_}
-use mathlib.Core.Path.{_≡_, refl, ap, _∙_}
+use mathlib.Core.Path.{_≡_, refl, sym, ap, _∙_}
 use mathlib.Core.Logic.{_⊎_, inl, inr, ⊎-elim}
-use mathlib.Core.List.{List, [], _∷_}
+use mathlib.Core.List.{List, [], _∷_, _++_}
+use native.Mathlib.Nat.{add-zero}
 use native.Mathlib.Omega.{arith}
 use lib.ListN.{length, getD, set, length-set, replicate}
 use lib.Seq.{sets, getD-set-same, getD-set-other, set-comm, set-set}
@@ -15,6 +16,13 @@ module _ {A : Type 0} where
   pub first-of : (l : List A) → 0 < length l → (x : A) × (xs : List A) × (l ≡ x ∷ xs)
   first-of [] l = absurd (omega arith)
   first-of (x ∷ xs) l = (x, xs, refl)
+
+  -- a run of stores, and one that goes on where it ended
+  pub sets-append : (xs ys l : List A) (i : ℕ) → sets l i (xs ++ ys) ≡ sets (sets l i xs) (i + length xs) ys
+  sets-append [] ys l i = ap (λ (k : ℕ). sets l k ys) (sym (add-zero i))
+  sets-append (x ∷ xs) ys l i =
+      let e : suc i + length xs ≡ i + suc (length xs) = omega arith in
+      sets-append xs ys (set l i x) (suc i) ∙ ap (λ (k : ℕ). sets (sets (set l i x) (suc i) xs) k ys) e
 
   -- a run of stores changes nothing before it and nothing behind it
   pub sets-other : (vs l : List A) (at j : ℕ) (d : A) → (j < at) ⊎ (at + length vs ≤ j) → getD (sets l at vs) j d ≡ getD l j d
@@ -36,7 +44,7 @@ module _ {A : Type 0} where
       ∙ sets-at vs (set l at v) (suc at) k d (omega arith) (omega (arith, length-set l at v))
 
   -- a store before the run may be made after it
-  sets-before : (vs l : List A) (at j : ℕ) (a : A) → j < at → sets (set l j a) at vs ≡ set (sets l at vs) j a
+  pub sets-before : (vs l : List A) (at j : ℕ) (a : A) → j < at → sets (set l j a) at vs ≡ set (sets l at vs) j a
   sets-before [] l at j a h = refl
   sets-before (v ∷ vs) l at j a h = ap (λ (m : List A). sets m (suc at) vs) (set-comm l j at a v (λ e. omega arith))
       ∙ sets-before vs (set l at v) (suc at) j a (omega arith)

@@ -1,5 +1,5 @@
 -- Writes one after the other are one write; how far a field goes.
-use Prim.Native.Nat.{ℕ, suc, _+_, _^_, _≤_, _<_}
+use Prim.Native.Nat.{ℕ, _+_, _^_, _≤_, _<_}
 use mathlib.Core.Path.{_≡_, refl, sym, ap, _∙_}
 use mathlib.Core.List.{List, [], _∷_, _++_, append-assoc}
 use native.Mathlib.Omega.{arith}
@@ -7,14 +7,9 @@ use native.Mathlib.Nat.{add-zero, zero-add}
 use native.Mathlib.Numerals.{add-one}
 use lib.ListN.{length, take, drop, getD, set, length-append}
 use lib.Seq.{sets, sets-eq, length-sets, take-suc, length-take-le, set-out}
+use Rattle.runs.specs.Stores.{none-of, sets-append}
 use Rattle.text.specs.Text.{tab, lineFeed, line}
 use Rattle.text.specs.Writing.{Said, plain, field, fields, said, Ends, Wrote}
-
-sets-append : (xs ys l : List ℕ) (i : ℕ) → sets l i (xs ++ ys) ≡ sets (sets l i xs) (i + length xs) ys
-sets-append [] ys l i = ap (λ (k : ℕ). sets l k ys) (sym (add-zero i))
-sets-append (x ∷ xs) ys l i =
-    let e : suc i + length xs ≡ i + suc (length xs) = omega arith in
-    sets-append xs ys (set l i x) (suc i) ∙ ap (λ (k : ℕ). sets (sets (set l i x) (suc i) xs) k ys) e
 
 -- nothing is written
 pub wrote-none : {out : List ℕ} {at : ℕ} → Wrote out at (plain []) at out
@@ -108,8 +103,7 @@ module _ {at : ℕ} {f : List ℕ} {end : ℕ} (n : ℕ) (h : length f ≤ n) wh
 
 -- an empty array stays empty: it is only counted
 pub counted : (after : List ℕ) {at : ℕ} {x : Said} {next : ℕ} → Wrote [] at x next after → after ≡ []
-counted [] w = refl
-counted (b ∷ bs) w = absurd (omega (arith, wrote-length w))
+counted after w = none-of after (wrote-length w)
 
 module _ {bs out : List ℕ} {n : ℕ} {after : List ℕ} (w : Wrote out 0 (plain bs) n after) where
   pub told-length : n ≡ length bs

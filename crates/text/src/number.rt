@@ -1,21 +1,40 @@
 // Numbers written as fields.
+ghost use mathlib.Core.Path.{_≡_};
 ghost use Prim.Native.Nat.{_+_, _^_, _≤_, _<_};
+ghost use lib.ListN.{length};
 ghost use Rattle.text.specs.Text.{decimal, numberIf};
 ghost use Rattle.text.specs.Decimals.{numberSize};
 ghost use Rattle.text.specs.Writing.{plain, field, Ends, Wrote};
 use crate::write::put_byte;
 use crate::write::put_field;
 
-pub fn put_digits(n: u64, out: &mut [u8], at: usize) -> usize
+// How many digits a number has.
+fn digits(n: u64) -> usize
+    ensures { λ r. ⌜ (r ≡ length (decimal n)) × (r ≤ 20) ⌝ }
+{
+    let mut left = n;
+    let mut count: usize = 1;
+    while 9 < left {
+        left /= 10;
+        count += 1;
+    }
+    count
+}
+
+// A number's digits, the last one first.
+fn put_digits(n: u64, out: &mut [u8], at: usize) -> usize
     requires { ⌜ Ends at (plain (decimal n)) ⌝ }
     ensures { λ r. ⌜ Wrote (now (out .entry)) at (plain (decimal n)) r (now (out .exit)) ⌝ }
 {
-    let last = (48 + n % 10) as u8;
-    if n < 10 {
-        return put_byte(last, out, at);
+    let count = digits(n);
+    let mut left = n;
+    let mut i = count;
+    while 0 < i {
+        i -= 1;
+        put_byte((48 + left % 10) as u8, out, at + i);
+        left /= 10;
     }
-    let next = put_digits(n / 10, out, at);
-    put_byte(last, out, next)
+    at + count
 }
 
 // A number as a field, and the tab or the line feed after it.
