@@ -30,6 +30,9 @@ pub record Outcome : Type 0 where
   pub store : List ℕ
   pub output : List ℕ
 
+abbrev pub textSize : ℕ
+textSize = 65536
+
 abbrev pub storeSize : ℕ
 storeSize = 8192
 

@@ -3,8 +3,8 @@ use mathlib.Core.List.{List}
 use Prim.Native.Nat.{ℕ}
 use Rattle.runs.specs.Every.{every}
 use Rattle.text.specs.Text.{bytes, allOf, split, valueAfter, numberOf, digitsBefore, decimal, line}
-use Rattle.plan.specs.Line.{accessOf, lineBy, lineOfFields}
-use Rattle.plan.specs.Reading.{repeats, asked, firstRefusal, readLines, reading}
+use Rattle.plan.specs.Line.{repeats, accessOf, lineBy, lineOfFields}
+use Rattle.plan.specs.Reading.{firstRefusal, readLines, reading}
 use Rattle.plan.specs.Orders.{seededPicks, picksOfAll}
 use Rattle.machine.specs.Whereabouts.{owner}
 use Rattle.machine.specs.Computing.{computing}
@@ -12,6 +12,6 @@ use Rattle.report.specs.Report.{taskLines, report}
 use Rattle.bench.specs.Answer.{printedFor, printed}
 
 unfoldable pub computed : List ℕ → List ℕ
-unfolding bytes every allOf split valueAfter numberOf digitsBefore decimal line accessOf lineBy lineOfFields repeats asked
+unfolding bytes every allOf split valueAfter numberOf digitsBefore decimal line accessOf lineBy lineOfFields repeats
     firstRefusal readLines reading seededPicks picksOfAll computing owner taskLines report printedFor
 computed text = printed text

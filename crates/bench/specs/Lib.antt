@@ -1,4 +1,5 @@
 pub mod Answer
+pub mod Loaded
 pub mod Written
 pub mod Computed
 pub mod Examples

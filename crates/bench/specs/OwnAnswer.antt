@@ -9,8 +9,8 @@ use Rattle.runs.specs.Update.{clash}
 use Rattle.runs.specs.Picks.{Regular}
 use Rattle.refusals.specs.declared.Refusal.the-variants.{TextTooLong}
 use Rattle.text.specs.Text.{lineFeed, bytes, decimal, split, line}
-use Rattle.plan.specs.Plan.{Plan}
-use Rattle.plan.specs.Reading.{accepted, refused, readLines, emptyPlan, isTooLong, reading}
+use Rattle.plan.specs.Plan.{Plan, emptyPlan}
+use Rattle.plan.specs.Reading.{accepted, refused, readLines, isTooLong, reading}
 use Rattle.plan.specs.Orders.{picksUpTo}
 use Rattle.machine.specs.Step.{finished}
 use Rattle.machine.specs.Figures.{finishingFigure}

@@ -5,7 +5,6 @@ ghost use Prim.Native.Nat.{ℕ, _≤_};
 ghost use lib.ListN.{length, take, drop, replicate};
 ghost use Rattle.plan.specs.Plan.{Plan};
 ghost use Rattle.plan.specs.Reading.{reading, accepted};
-ghost use Rattle.reader.specs.Verdict.{Says};
 ghost use Rattle.machine.specs.State.{Setup, State, start};
 ghost use Rattle.machine.specs.Step.{finished};
 ghost use Rattle.machine.specs.Whereabouts.{owner};
@@ -19,6 +18,7 @@ ghost use Rattle.scheduler.specs.Lent.{memory};
 ghost use Rattle.report.specs.Report.{report};
 ghost use Rattle.orders.specs.Reached.{setupOf, reached};
 ghost use Rattle.bench.specs.Answer.{reportOf, written};
+ghost use Rattle.bench.specs.Loaded.{Loaded, LoadedTasks};
 use super::Answer;
 use memory::layout;
 use orders::play_orders;
@@ -85,7 +85,9 @@ fn answer_of(
 
 // Lays a plan that was read into the arrays of a run in which no pick has been taken.
 fn set_up(
-    read: ReadPlan,
+    plan: &[u64],
+    workers: u64,
+    count: usize,
     wait: &mut [u64],
     registrations: &mut [u64],
     tickets: &mut [u64],
@@ -96,8 +98,9 @@ fn set_up(
 ) -> Counts
     requires { ⌜ (length (now rows) ≡ layout.taskRows) × (length (now accesses) ≡ layout.accessRows)
         × (length (now labels) ≡ layout.labelRows) ⌝ }
-    requires { ⌜ ((text : List ℕ) × (p : Plan) × (reading text ≡ accepted p) × Says text read p) ⌝ }
-    ensures { λ r. ⌜ ((text : List ℕ) (p : Plan) (ready store : List ℕ) → reading text ≡ accepted p → Says text read p →
+    requires { ⌜ ((text : List ℕ) × (p : Plan) × (reading text ≡ accepted p) × LoadedTasks text (now plan) workers count p) ⌝ }
+    ensures { λ r. ⌜ ((text : List ℕ) (p : Plan) (ready store : List ℕ) → reading text ≡ accepted p →
+        LoadedTasks text (now (plan .entry)) workers count p →
         sharesSize ≤ length store → take sharesSize store ≡ replicate sharesSize 0 →
         Holds (setupOf p)
         (memory r (now (wait .exit)) (now (registrations .exit)) (now (tickets .exit)) (now (cells .exit)) ready
@@ -105,16 +108,16 @@ fn set_up(
         (share store) (start (setupOf p))
         × Labels (p .tasks) text (now (labels .exit))) ⌝ }
 {
-    let workers = read.workers;
-    let count = read.tasks as u64;
-    lay_out(read, rows, accesses, labels);
+    lay_out(plan, count, rows, accesses, labels);
     let ends = lock::start(SLOTS, wait, registrations, tickets, cells);
-    fresh(ends, workers, count)
+    fresh(ends, workers, count as u64)
 }
 
 // Runs a plan that was read, in arrays that are lent, from a store whose shares are all 0.
 fn run_in(
     text: &[u8],
+    plan: &[u64],
+    lines: &[u64],
     read: ReadPlan,
     limit: u64,
     wait: &mut [u64],
@@ -132,15 +135,17 @@ fn run_in(
     requires { ⌜ (length (now wait) ≡ SLOTS) × (length (now registrations) ≡ SLOTS) × (length (now tickets) ≡ mostWorkers)
         × (length (now cells) ≡ mostWorkers) × (length (now ready) ≡ READY) × (length (now rows) ≡ layout.taskRows)
         × (length (now accesses) ≡ layout.accessRows) × (length (now labels) ≡ layout.labelRows) ⌝ }
-    requires { ⌜ ((p : Plan) × (reading (now text) ≡ accepted p) × Says (now text) read p) ⌝ }
-    ensures answer { λ r. ⌜ ((p : Plan) (left : List ℕ) → reading (now (text .entry)) ≡ accepted p → Says (now (text .entry)) read p →
+    requires { ⌜ ((p : Plan) × (reading (now text) ≡ accepted p) × Loaded (now text) (now plan) (now lines) read p) ⌝ }
+    ensures answer { λ r. ⌜ ((p : Plan) (left : List ℕ) → reading (now (text .entry)) ≡ accepted p →
+        Loaded (now (text .entry)) (now (plan .entry)) (now (lines .entry)) read p →
         (r ≡ (written limit left (now (output .entry)) (reached p limit .picks) (reportOf p limit)) .answer)
         × (now (output .exit) ≡ (written limit left (now (output .entry)) (reached p limit .picks) (reportOf p limit)) .output)) ⌝ }
     ensures later { λ _. ⌜ drop sharesSize (now (store .exit)) ≡ drop sharesSize (now (store .entry)) ⌝ }
 {
-    let orders = read.orders;
     let begin = set_up(
-        read,
+        plan,
+        read.workers,
+        read.tasks,
         wait,
         registrations,
         tickets,
@@ -150,8 +155,8 @@ fn run_in(
         labels,
     );
     let n = play_orders(
-        text,
-        orders,
+        lines,
+        read.orders,
         limit,
         begin,
         wait,
@@ -169,14 +174,17 @@ fn run_in(
 // Runs a plan that was read, from a store whose shares are all 0.
 pub fn run_plan(
     text: &[u8],
+    plan: &[u64],
+    lines: &[u64],
     read: ReadPlan,
     limit: u64,
     store: &mut [u64],
     output: &mut [u8],
 ) -> Answer
     requires { ⌜ (sharesSize ≤ length (now store)) × (take sharesSize (now store) ≡ replicate sharesSize 0) ⌝ }
-    requires { ⌜ ((p : Plan) × (reading (now text) ≡ accepted p) × Says (now text) read p) ⌝ }
-    ensures answer { λ r. ⌜ ((p : Plan) (left : List ℕ) → reading (now (text .entry)) ≡ accepted p → Says (now (text .entry)) read p →
+    requires { ⌜ ((p : Plan) × (reading (now text) ≡ accepted p) × Loaded (now text) (now plan) (now lines) read p) ⌝ }
+    ensures answer { λ r. ⌜ ((p : Plan) (left : List ℕ) → reading (now (text .entry)) ≡ accepted p →
+        Loaded (now (text .entry)) (now (plan .entry)) (now (lines .entry)) read p →
         (r ≡ (written limit left (now (output .entry)) (reached p limit .picks) (reportOf p limit)) .answer)
         × (now (output .exit) ≡ (written limit left (now (output .entry)) (reached p limit .picks) (reportOf p limit)) .output)) ⌝ }
     ensures later { λ _. ⌜ drop sharesSize (now (store .exit)) ≡ drop sharesSize (now (store .entry)) ⌝ }
@@ -191,6 +199,8 @@ pub fn run_plan(
     let mut labels = [0u64; layout::LABEL_ROWS];
     run_in(
         text,
+        plan,
+        lines,
         read,
         limit,
         &mut wait,

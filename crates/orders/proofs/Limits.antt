@@ -1,8 +1,8 @@
--- Picks up to a limit, one at a time and list after list.
+-- Picks up to a limit, list after list; picks of a source, one at a time.
 use Prim.Native.Nat.{ℕ, zero, suc, _+_, _-_, _≤_, _<_}
 use native.Mathlib.Omega.{arith}
 use mathlib.Core.Path.{_≡_, refl, sym, ap, _∙_}
-use mathlib.Core.Logic.{_⊎_, inl, inr, _≢_}
+use mathlib.Core.Logic.{_⊎_, inl, inr}
 use mathlib.Core.Bool.{Bool, true, false}
 use mathlib.Core.List.{List, [], _∷_, _++_}
 use lib.ListN.{length, take, length-take}
@@ -10,13 +10,14 @@ use Rattle.runs.specs.Update.{order}
 use Rattle.runs.specs.Picks.{Picks, picks-take, run}
 use Rattle.picks.specs.declared.Source.{Source}
 use Rattle.picks.specs.declared.Drawn.{Drawn}
-use Rattle.picks.specs.Sources.{picksLeft, Draws}
+use Rattle.picks.specs.Sources.{picksFrom, Draws}
+use Rattle.picks.specs.SourceLaws.{from-none}
 use Rattle.machine.specs.State.{Setup, State, picked}
 use Rattle.machine.specs.Step.{step, finished, pick}
 use Rattle.machine.specs.Ranges.{Sized, Fit, Going, going-step, going-fit}
 use Rattle.machine.specs.Safety.Invariant.{Playable}
 use Rattle.machine.specs.Safety.Traces.{pick-open, run-finished, run-inv, step-picks, picks-taken, taken-within}
-use Rattle.orders.specs.Limited.{limited, Under}
+use Rattle.orders.specs.Limited.{limited, drawnTo, Under}
 
 module _ (c : Setup) (limit : ℕ) where
   pub limited-none : (s : State) → limited c limit s [] ≡ s
@@ -76,26 +77,38 @@ module _ (c : Setup) (limit : ℕ) where
     limited-going playable sized going =
         run-inv c (Going c) (λ t w l h. going-step c playable sized t h w l) allowed allowed-own s going
 
--- one pick of an order line
-module _ (c : Setup) (s : State) (limit : ℕ) (source : Source) (u : Under c s limit source)
-    (some-left : 0 < source .left) (drawn : Drawn) (d : Draws (c .workers) source drawn) where
-  pub pick-fits : Fit c (picked s) (drawn .worker)
-  pick-fits = going-fit c (u .playable) (u .sized) s (u .going) (omega (arith, u .few)) (drawn .worker) (d .low)
+-- ---- picks of a source
 
-  module _ (open-yet : finished c s ≡ false) (not-full : s .picks ≢ limit) where
-    pub under-pick : Under c (step c s (drawn .worker)) limit (drawn .source)
+module _ (c : Setup) (end : ℕ) (s : State) (source : Source) where
+  -- no pick is taken where there are enough, or where the state is finished
+  pub drawn-full : end ≤ s .picks → drawnTo c end s source ≡ s
+  drawn-full l =
+      let none-left : end - s .picks ≡ 0 = omega arith in
+      ap (λ n. run (pick c) s (picksFrom (c .workers) source n)) none-left ∙ ap (run (pick c) s) (from-none (c .workers) source)
+
+  pub drawn-finished : finished c s ≡ true → drawnTo c end s source ≡ s
+  drawn-finished e = run-finished c s e (picksFrom (c .workers) source (end - s .picks))
+
+  -- one pick more
+  module _ (u : Under c s end source) (below : s .picks < end) (drawn : Drawn) (d : Draws (c .workers) source drawn) where
+    pub pick-fits : Fit c (picked s) (drawn .worker)
+    pick-fits = going-fit c (u .playable) (u .sized) s (u .going) (omega (arith, u .few)) (drawn .worker) (d .low)
+
+    pub under-pick : Under c (step c s (drawn .worker)) end (drawn .source)
     under-pick =
         record {
           playable = u .playable;
           sized = u .sized;
           going = going-step c (u .playable) (u .sized) s (u .going) (drawn .worker) (d .low);
-          below = omega (arith, step-picks c s (drawn .worker), u .below, not-full);
-          few = omega (arith, step-picks c s (drawn .worker), u .few, d .less);
+          few = u .few;
           formed = d .formed;
         }
 
-    pub line-pick : limited c limit (step c s (drawn .worker)) (picksLeft (c .workers) (drawn .source))
-        ≡ limited c limit s (picksLeft (c .workers) source)
-    line-pick =
-        let below : s .picks < limit = omega (arith, u .below, not-full) in
-        sym (ap (limited c limit s) (d .picks) ∙ limited-pick c limit s (drawn .worker) _ below open-yet)
+    pub drawn-pick : finished c s ≡ false → drawnTo c end (step c s (drawn .worker)) (drawn .source) ≡ drawnTo c end s source
+    drawn-pick e =
+        let rest = end - (step c s (drawn .worker)) .picks in
+        let one-less : end - s .picks ≡ suc rest = omega (arith, step-picks c s (drawn .worker)) in
+        sym
+        (ap (λ n. run (pick c) s (picksFrom (c .workers) source n)) one-less
+        ∙ ap (run (pick c) s) (d .picks rest)
+        ∙ ap (λ t. run (pick c) t (picksFrom (c .workers) (drawn .source) rest)) (pick-open c s (drawn .worker) e))

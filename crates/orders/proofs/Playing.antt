@@ -1,23 +1,22 @@
 -- The picks of one order line, taken one at a time in what is lent.
-use Prim.Native.Nat.{ℕ, _≤_, _<_}
+use Prim.Native.Nat.{ℕ, suc, _≤_, _<_}
 use native.Mathlib.Omega.{arith}
 use mathlib.Core.Path.{_≡_, refl, sym, ap, _∙_}
-use mathlib.Core.Logic.{_≢_}
 use mathlib.Core.Bool.{true, false}
 use mathlib.Core.List.{List}
 use lib.ListN.{length, drop}
 use Rattle.picks.specs.declared.Source.{Source}
 use Rattle.picks.specs.declared.Drawn.{Drawn}
-use Rattle.picks.specs.Sources.{picksLeft, Formed, Draws}
-use Rattle.picks.specs.SourceLaws.{left-nil}
+use Rattle.picks.specs.Sources.{Formed, Draws}
 use Rattle.machine.specs.State.{Setup, State, picked}
 use Rattle.machine.specs.Step.{step, finished}
 use Rattle.machine.specs.Ranges.{Fit}
+use Rattle.machine.specs.Safety.Traces.{step-picks}
 use Rattle.steps.specs.Layout.{sharesSize}
 use Rattle.steps.specs.Memory.{share, Memory, Long, Holds}
-use Rattle.orders.specs.Limited.{limited, Under}
+use Rattle.orders.specs.Limited.{drawnTo, Under}
 use Rattle.orders.specs.Played.{LineAble, LinePlayed}
-use Rattle.orders.proofs.Limits.{limited-none, limited-full, limited-finished, pick-fits, under-pick, line-pick}
+use Rattle.orders.proofs.Limits.{drawn-full, drawn-finished, pick-fits, under-pick, drawn-pick}
 
 -- ---- what is lent keeps its lengths, and the store what follows the shares
 
@@ -77,35 +76,47 @@ kept-room k l = omega (arith, k .size)
 -- ---- the picks of a line
 
 -- a state that is held now, from which what is left of the line comes to the same as the whole line from s₀
-pub record Reaches (c : Setup) (limit : ℕ) (s₀ : State) (line₀ : Source) (m : Memory) (store : List ℕ) (line : Source) : Type 0 where
+pub record Reaches (c : Setup) (end : ℕ) (s₀ : State) (line₀ : Source) (m : Memory) (store : List ℕ) (line : Source) : Type 0 where
   pub s : State
-  pub under : Under c s limit line
+  pub under : Under c s end line
   pub holds : Holds c m (share store) s
-  pub comes-to : limited c limit s (picksLeft (c .workers) line) ≡ limited c limit s₀ (picksLeft (c .workers) line₀)
+  pub comes-to : drawnTo c end s line ≡ drawnTo c end s₀ line₀
 
 -- whatever state was held before the line, one that it reaches is held now
-pub record Goes (limit : ℕ) (m₀ : Memory) (store₀ : List ℕ) (line₀ : Source) (m : Memory) (store : List ℕ) (line : Source) : Type 0 where
+pub record Goes (end : ℕ) (m₀ : Memory) (store₀ : List ℕ) (line₀ : Source) (m : Memory) (store : List ℕ) (line : Source) : Type 0 where
   pub kept : Kept m₀ store₀ m store
-  pub reaches : (c : Setup) (s₀ : State) → Under c s₀ limit line₀ → Holds c m₀ (share store₀) s₀ → Reaches c limit s₀ line₀ m store line
+  pub reaches : (c : Setup) (s₀ : State) → Under c s₀ end line₀ → Holds c m₀ (share store₀) s₀ → Reaches c end s₀ line₀ m store line
 
-pub goes-start : {limit : ℕ} {m : Memory} {store : List ℕ} {line : Source} → Goes limit m store line m store line
+pub goes-start : {end : ℕ} {m : Memory} {store : List ℕ} {line : Source} → Goes end m store line m store line
 goes-start = record { kept = kept-start; reaches = λ c s u h. record { s = s; under = u; holds = h; comes-to = refl } }
 
 -- the line is played
 abbrev pub Comes : ℕ → Memory → List ℕ → Source → Memory → List ℕ → Type 0
-Comes limit m₀ store₀ line₀ m store = LinePlayed limit line₀ m₀ store₀ m store × (drop sharesSize store ≡ drop sharesSize store₀)
+Comes end m₀ store₀ line₀ m store = LinePlayed end line₀ m₀ store₀ m store × (drop sharesSize store ≡ drop sharesSize store₀)
+
+-- after a step of worker w
+abbrev pub Stepped : Memory → List ℕ → ℕ → Memory → List ℕ → Type 0
+Stepped m store w n then =
+    (c : Setup) (s : State) → Holds c m (share store) s → Fit c (picked s) w → Holds c n (share then) (step c s w)
 
 -- the worker drawn is one of the plan, whose step can be taken
-module _ {limit : ℕ} {m : Memory} {store : List ℕ} {line : Source} (a : LineAble limit line m store) where
+module _ {end : ℕ} {m : Memory} {store : List ℕ} {line : Source} (a : LineAble end line m store) where
   pub able-formed : Formed (m .counts .workers) line
   able-formed = rw (a .holds .device .workers) (a .under .formed)
 
-  pub able-fits : 0 < line .left → (drawn : Drawn) → Draws (m .counts .workers) line drawn → Fit (a .c) (picked (a .s)) (drawn .worker)
-  able-fits some-left drawn d = pick-fits (a .c) (a .s) limit line (a .under) some-left drawn (rw (a .holds .device .workers) at d)
+  module _ (below : m .counts .picks < end) (drawn : Drawn) (d : Draws (m .counts .workers) line drawn) where
+    pub able-fits : Fit (a .c) (picked (a .s)) (drawn .worker)
+    able-fits =
+        pick-fits (a .c) end (a .s) line (a .under) (rw (a .holds .picks) at below) drawn (rw (a .holds .device .workers) at d)
 
-module _ {limit : ℕ} {m₀ : Memory} {store₀ : List ℕ} {line₀ : Source} {m : Memory} {store : List ℕ} {line : Source}
-    (g : Goes limit m₀ store₀ line₀ m store line) where
-  pub still-able : LineAble limit line₀ m₀ store₀ → LineAble limit line m store
+    -- and it is counted
+    pub able-counts : {n : Memory} {shares : ℕ → List ℕ} → Holds (a .c) n shares (step (a .c) (a .s) (drawn .worker))
+        → n .counts .picks ≡ suc (m .counts .picks)
+    able-counts h = h .picks ∙ step-picks (a .c) (a .s) (drawn .worker) ∙ ap suc (sym (a .holds .picks))
+
+module _ {end : ℕ} {m₀ : Memory} {store₀ : List ℕ} {line₀ : Source} {m : Memory} {store : List ℕ} {line : Source}
+    (g : Goes end m₀ store₀ line₀ m store line) where
+  pub still-able : LineAble end line₀ m₀ store₀ → LineAble end line m store
   still-able a =
       let r = g .reaches (a .c) (a .s) (a .under) (a .holds) in
       record {
@@ -118,38 +129,31 @@ module _ {limit : ℕ} {m₀ : Memory} {store₀ : List ℕ} {line₀ : Source} 
       }
 
   -- where no pick is taken any more, the state is what the line comes to
-  comes : ((c : Setup) (s : State) → Holds c m (share store) s → limited c limit s (picksLeft (c .workers) line) ≡ s)
-      → Comes limit m₀ store₀ line₀ m store
+  comes : ((c : Setup) (s : State) → Holds c m (share store) s → drawnTo c end s line ≡ s) → Comes end m₀ store₀ line₀ m store
   comes ends =
       (λ c s₀ u h. let r = g .reaches c s₀ u h in rw (sym (r .comes-to) ∙ ends c (r .s) (r .holds)) (r .holds), g .kept .later)
 
-  pub comes-full : m .counts .picks ≡ limit → Comes limit m₀ store₀ line₀ m store
-  comes-full e = comes (λ c s h. limited-full c limit s _ (sym (h .picks) ∙ e))
+  pub comes-full : end ≤ m .counts .picks → Comes end m₀ store₀ line₀ m store
+  comes-full l = comes (λ c s h. drawn-full c end s line (rw (h .picks) at l))
 
-  pub comes-finished : ((c : Setup) (s : State) → Holds c m (share store) s → true ≡ finished c s) → Comes limit m₀ store₀ line₀ m store
-  comes-finished e = comes (λ c s h. limited-finished c limit s _ (sym (e c s h)))
-
-  pub comes-empty : line .left ≤ 0 → Comes limit m₀ store₀ line₀ m store
-  comes-empty e = comes (λ c s h. ap (limited c limit s) (left-nil (c .workers) line (omega arith)) ∙ limited-none c limit s)
+  pub comes-finished : ((c : Setup) (s : State) → Holds c m (share store) s → true ≡ finished c s) → Comes end m₀ store₀ line₀ m store
+  comes-finished e = comes (λ c s h. drawn-finished c end s line (sym (e c s h)))
 
   -- one pick more
-  pub goes-pick : 0 < line .left → m .counts .picks ≢ limit → ((c : Setup) (s : State) → Holds c m (share store) s → false ≡ finished c s)
+  pub goes-pick : m .counts .picks < end → ((c : Setup) (s : State) → Holds c m (share store) s → false ≡ finished c s)
       → (drawn : Drawn) → Draws (m .counts .workers) line drawn → {n : Memory} {then : List ℕ} → Kept m store n then
-      → ((c : Setup) (s : State) → Holds c m (share store) s → Fit c (picked s) (drawn .worker)
-      → Holds c n (share then) (step c s (drawn .worker)))
-      → Goes limit m₀ store₀ line₀ n then (drawn .source)
-  goes-pick some-left not-full goes-on drawn d kept one =
+      → Stepped m store (drawn .worker) n then → Goes end m₀ store₀ line₀ n then (drawn .source)
+  goes-pick below goes-on drawn d kept one =
       record {
         kept = kept-more (g .kept) kept;
         reaches = λ c s₀ u h.
             let r = g .reaches c s₀ u h in
             let own : Draws (c .workers) line drawn = rw (r .holds .device .workers) at d in
-            let still = sym (goes-on c (r .s) (r .holds)) in
-            let below : r .s .picks ≢ limit = λ e. not-full (r .holds .picks ∙ e) in
+            let lower : r .s .picks < end = rw (r .holds .picks) at below in
             record {
               s = step c (r .s) (drawn .worker);
-              under = under-pick c (r .s) limit line (r .under) some-left drawn own still below;
-              holds = one c (r .s) (r .holds) (pick-fits c (r .s) limit line (r .under) some-left drawn own);
-              comes-to = line-pick c (r .s) limit line (r .under) some-left drawn own still below ∙ r .comes-to;
+              under = under-pick c end (r .s) line (r .under) lower drawn own;
+              holds = one c (r .s) (r .holds) (pick-fits c end (r .s) line (r .under) lower drawn own);
+              comes-to = drawn-pick c end (r .s) line (r .under) lower drawn own (sym (goes-on c (r .s) (r .holds))) ∙ r .comes-to;
             };
       }

@@ -1,23 +1,23 @@
 // The order lines of an accepted plan, played: their picks are taken one after the other.
 ghost use mathlib.Core.Path.{_≡_};
+ghost use Prim.Native.Nat.{_+_, _^_, _≤_, _<_, min};
 ghost use lib.ListN.{drop};
 ghost use Rattle.steps.specs.Layout.{sharesSize};
 ghost use Rattle.scheduler.specs.Lent.{memory};
 ghost use Rattle.orders.specs.Played.{LineAble, LinePlayed, OrdersAble, OrdersPlayed};
+use kept::orders::order_at;
 use picks::Source;
-use picks::after_line;
+use picks::count_of;
 use picks::draw;
-use picks::is_end;
 use picks::source_of;
-use reader::order::read_order;
 use scheduler::is_finished;
 use scheduler::pick;
 use steps::Counts;
 
-// Takes the picks of one order line, up to the limit, as long as the state is not finished.
+// Takes picks of one order line until so many are taken in all, as long as the state is not finished.
 fn play_line(
     source: Source,
-    limit: u64,
+    end: u64,
     begin: Counts,
     wait: &mut [u64],
     registrations: &mut [u64],
@@ -28,9 +28,9 @@ fn play_line(
     accesses: &mut [u64],
     store: &mut [u64],
 ) -> Counts
-    requires { ⌜ LineAble limit source
+    requires { ⌜ LineAble end source
         (memory begin (now wait) (now registrations) (now tickets) (now cells) (now ready) (now rows) (now accesses)) (now store) ⌝ }
-    ensures held { λ r. ⌜ LinePlayed limit source
+    ensures held { λ r. ⌜ LinePlayed end source
         (memory begin (now (wait .entry)) (now (registrations .entry)) (now (tickets .entry)) (now (cells .entry))
         (now (ready .entry)) (now (rows .entry)) (now (accesses .entry))) (now (store .entry))
         (memory r (now (wait .exit)) (now (registrations .exit)) (now (tickets .exit)) (now (cells .exit))
@@ -39,10 +39,7 @@ fn play_line(
 {
     let mut n = begin;
     let mut line = source;
-    while 0 < line.left {
-        if n.picks == limit {
-            return n;
-        }
+    while n.picks < end {
         if is_finished(n) {
             return n;
         }
@@ -64,9 +61,20 @@ fn play_line(
     n
 }
 
-// Takes the picks of the order lines from a place of the text on.
+// The picks taken after a line of so many, or the limit if that comes first.
+fn end_of(picks: u64, count: u64, limit: u64) -> u64
+    requires { ⌜ (picks ≤ limit) × (picks + count < 2 ^ 64) ⌝ }
+    ensures { λ r. ⌜ r ≡ min (picks + count) limit ⌝ }
+{
+    if limit - picks < count {
+        return limit;
+    }
+    picks + count
+}
+
+// Takes the picks of so many order lines that are kept.
 pub fn play_orders(
-    text: &[u8],
+    lines: &[u64],
     orders: usize,
     limit: u64,
     begin: Counts,
@@ -79,9 +87,9 @@ pub fn play_orders(
     accesses: &mut [u64],
     store: &mut [u64],
 ) -> Counts
-    requires { ⌜ OrdersAble (now text) orders
+    requires { ⌜ OrdersAble (now lines) orders
         (memory begin (now wait) (now registrations) (now tickets) (now cells) (now ready) (now rows) (now accesses)) (now store) ⌝ }
-    ensures held { λ r. ⌜ OrdersPlayed (now (text .entry)) orders limit
+    ensures held { λ r. ⌜ OrdersPlayed (now (lines .entry)) orders limit
         (memory begin (now (wait .entry)) (now (registrations .entry)) (now (tickets .entry)) (now (cells .entry))
         (now (ready .entry)) (now (rows .entry)) (now (accesses .entry))) (now (store .entry))
         (memory r (now (wait .exit)) (now (registrations .exit)) (now (tickets .exit)) (now (cells .exit))
@@ -89,17 +97,14 @@ pub fn play_orders(
     ensures later { λ _. ⌜ drop sharesSize (now (store .exit)) ≡ drop sharesSize (now (store .entry)) ⌝ }
 {
     let mut n = begin;
-    let mut at = orders;
-    loop {
-        let line = read_order(text, at, n.workers);
-        if is_end(line) {
-            return n;
-        }
-        at = after_line(line, at);
-        let source = source_of(line, n.workers);
+    let mut i: usize = 0;
+    while i < orders {
+        let order = order_at(lines, i);
+        let source = source_of(order);
+        let count = count_of(order, n.workers);
         n = play_line(
             source,
-            limit,
+            end_of(n.picks, count, limit),
             n,
             wait,
             registrations,
@@ -116,5 +121,7 @@ pub fn play_orders(
         if is_finished(n) {
             return n;
         }
+        i += 1;
     }
+    n
 }

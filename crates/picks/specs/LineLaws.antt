@@ -1,83 +1,92 @@
--- Laws of order lines that were read, and their sources. Assumes nothing.
-use Prim.Native.Nat.{ℕ, _*_, _^_, _≤_, _<_}
-use mathlib.Core.Path.{_≡_, refl, sym, _∙_}
-use mathlib.Core.Bool.{true}
+-- Laws of order lines that are kept: how many picks they have, and which source gives these. Assumes nothing.
+use Prim.Native.Nat.{ℕ, _*_, _/_, _%_, _≤_, _<_}
+use mathlib.Core.Path.{_≡_, refl, sym, ap, _∙_}
+use mathlib.Core.Logic.{_≢_}
 use native.Mathlib.Omega.{arith}
 use native.Mathlib.Nat.{mul-le-mul}
-use borrow.Author.Tests.{lt-ltb, le-leb}
-use Rattle.runs.specs.Update.{clash}
+use lib.ListN.{length, length-replicate}
 use Rattle.plan.specs.Plan.{Order, picks, rounds, seeded}
-use Rattle.plan.specs.Orders.{picksOf}
-use Rattle.plan.specs.Accepted.{OrderFormed}
-use Rattle.plan.specs.Reading.{orderInRange}
-use Rattle.reader.specs.declared.order.OrderLine.{OrderLine}
-use Rattle.reader.specs.declared.order.OrderLine.the-variants.{End}
-use Rattle.reader.specs.PassOrders.{asOrder}
+use Rattle.plan.specs.Orders.{seededPicks, picksOf}
+use Rattle.kept.specs.declared.orders.OrderRow.{OrderRow}
+use Rattle.kept.specs.Layout as layout
+use Rattle.kept.specs.OrderLaws.{code-who}
 use Rattle.picks.specs.declared.Source.{Source}
-use Rattle.picks.specs.Sources.{picksLeft, Formed, LineFormed, Opens}
-use Rattle.picks.specs.SourceLaws.{left-same, left-turns, left-seeded, rounds-in-turn}
+use Rattle.picks.specs.Sources.{picksFrom, Formed, RowOf, Opens}
+use Rattle.picks.specs.SourceLaws.{turns-length, seeded-length, from-same, from-turns, from-seeded, rounds-in-turn}
 
--- ---- a line says one order at most
+-- ---- how many picks
 
-one-order : (o q : Order) (next after : ℕ) → asOrder o next ≡ asOrder q after → (o ≡ q) × (next ≡ after)
-one-order (picks w n) (picks v m) next after e = let a : w ≡ v = cc in let b : n ≡ m = cc in (rw (a, b), cc)
-one-order (picks w n) (rounds m) next after e = clash (cc)
-one-order (picks w n) (seeded x m) next after e = clash (cc)
-one-order (rounds n) (picks v m) next after e = clash (cc)
-one-order (rounds n) (rounds m) next after e = (cc, cc)
-one-order (rounds n) (seeded x m) next after e = clash (cc)
-one-order (seeded x n) (picks v m) next after e = clash (cc)
-one-order (seeded x n) (rounds m) next after e = clash (cc)
-one-order (seeded x n) (seeded y m) next after e = (cc, cc)
+abbrev pub countOf : ℕ → Order → ℕ
+countOf W (picks worker n) = n
+countOf W (rounds n) = n * W
+countOf W (seeded seed n) = n
 
-no-order : (o : Order) (next : ℕ) → asOrder o next ≡ End → ⊥
-no-order (picks w n) next e = clash (cc)
-no-order (rounds n) next e = clash (cc)
-no-order (seeded x n) next e = clash (cc)
+pub count-picks : (W : ℕ) (o : Order) → 0 < W → length (picksOf W o) ≡ countOf W o
+count-picks W (picks worker n) h = length-replicate n worker
+count-picks W (rounds n) h = ap length (rounds-in-turn W n h) ∙ turns-length W 0 (n * W)
+count-picks W (seeded seed n) h = seeded-length W seed n
 
-module _ {line : OrderLine} where
-  -- what holds of the order that a line says, and of the place after it
-  pub line-only : (P : Order → ℕ → Type 0) (o : Order) (next : ℕ) → line ≡ asOrder o next → P o next
-      → (q : Order) (after : ℕ) → line ≡ asOrder q after → P q after
-  line-only P o next e h q after f = let (a, b) = one-order o q next after (sym e ∙ f) in rw (a, b) at h
+-- ---- the parts of a code
 
-  pub line-not-end : (o : Order) (next : ℕ) → line ≡ asOrder o next → line ≡ End → ⊥
-  line-not-end o next e f = no-order o next (sym e ∙ f)
+abbrev whoOf : Order → ℕ
+whoOf (picks worker n) = worker
+whoOf (rounds n) = layout.inTurn
+whoOf (seeded seed n) = layout.bySeed
 
--- ---- lines that are formed
+abbrev manyOf : Order → ℕ
+manyOf (picks worker n) = n
+manyOf (rounds n) = n
+manyOf (seeded seed n) = n
 
-pub line-formed : (W : ℕ) (line : OrderLine) (o : Order) (next : ℕ) → line ≡ asOrder o next → OrderFormed W o → LineFormed W line
-line-formed W line o next e h = line-only (λ q after. OrderFormed W q) o next e h
+module _ (W : ℕ) (row : OrderRow) (some-workers : 0 < W) (few-workers : W ≤ 32) where
+  abbrev who : ℕ
+  who = row .code % layout.who
 
-pub end-formed : (W : ℕ) (line : OrderLine) → line ≡ End → LineFormed W line
-end-formed W line e o next f = absurd (line-not-end o next f e)
+  abbrev many : ℕ
+  many = row .code / layout.who
 
--- the test that `order-first` of the reader asks for
-pub order-in-range : (W : ℕ) (o : Order) → OrderFormed W o → orderInRange W o ≡ true
-order-in-range W (picks w n) (h, l, m) = rw (lt-ltb w W h, le-leb 1 n l, le-leb n 4096 m)
-order-in-range W (rounds n) (l, m) = rw (le-leb 1 n l, le-leb n 1000000 m)
-order-in-range W (seeded x n) (h, l, m) = rw (lt-ltb x (2 ^ 64) h, le-leb 1 n l, le-leb n 1000000 m)
+  parts : (o : Order) → RowOf W row o → (who ≡ whoOf o) × (many ≡ manyOf o)
+  parts (picks worker n) r = rw (r .same) (code-who n worker (omega (arith, r .formed .0)))
+  parts (rounds n) r = rw (r .same) (code-who n layout.inTurn (omega arith))
+  parts (seeded seed n) r = rw (r .same) (code-who n layout.bySeed (omega arith))
 
--- ---- the source of a line
+  -- ---- the count, by the code
 
-module _ {W : ℕ} {line : OrderLine} {s : Source} where
-  pub opens-end : line ≡ End → s .left ≡ 0 → Formed W s → Opens W line s
-  opens-end e l f = record { picks = λ o next g. absurd (line-not-end o next g e); none = λ g. l; formed = f }
+  pub rounds-count : who ≡ layout.inTurn → (o : Order) → RowOf W row o → many * W ≡ length (picksOf W o)
+  rounds-count e (picks worker n) r = absurd (omega (arith, parts (picks worker n) r, r .formed .0))
+  rounds-count e (rounds n) r = rw (parts (rounds n) r .1) (sym (count-picks W (rounds n) some-workers))
+  rounds-count e (seeded seed n) r = absurd (omega (arith, parts (seeded seed n) r))
 
-  opens : (o : Order) (next : ℕ) → line ≡ asOrder o next → picksLeft W s ≡ picksOf W o → Formed W s → Opens W line s
-  opens o next e p f =
-      record { picks = line-only (λ q after. picksLeft W s ≡ picksOf W q) o next e p; none = λ g. absurd (line-not-end o next e g); formed = f }
-
-module _ (W : ℕ) (line : OrderLine) (n next : ℕ) (formed : LineFormed W line) where
-  pub opens-picks : (worker : ℕ) → line ≡ asOrder (picks worker n) next → Opens W line (record { kind = 0; worker = worker; state = 0; left = n })
-  opens-picks worker e = opens (picks worker n) next e (left-same W _ refl) (formed (picks worker n) next e .0)
-
-  pub opens-rounds : 0 < W → line ≡ asOrder (rounds n) next → Opens W line (record { kind = 1; worker = 0; state = 0; left = n * W })
-  opens-rounds h e = opens (rounds n) next e (left-turns W _ refl ∙ sym (rounds-in-turn W n h)) h
-
-  pub opens-seeded : (seed : ℕ) → 0 < W → line ≡ asOrder (seeded seed n) next → Opens W line (record { kind = 2; worker = 0; state = seed; left = n })
-  opens-seeded seed h e = opens (seeded seed n) next e (left-seeded W _ (λ f. omega arith) (λ f. omega arith)) h
+  pub others-count : who ≢ layout.inTurn → (o : Order) → RowOf W row o → many ≡ length (picksOf W o)
+  others-count e (picks worker n) r = parts (picks worker n) r .1 ∙ sym (count-picks W (picks worker n) some-workers)
+  others-count e (rounds n) r = absurd (e (parts (rounds n) r .0))
+  others-count e (seeded seed n) r = parts (seeded seed n) r .1 ∙ sym (count-picks W (seeded seed n) some-workers)
 
   -- rounds of few workers are no more picks than fit
-  pub rounds-fit : W ≤ 32 → line ≡ asOrder (rounds n) next → n * W ≤ 32000000
-  rounds-fit h e = mul-le-mul (formed (rounds n) next e .1) h
+  pub rounds-fit : who ≡ layout.inTurn → (o : Order) → RowOf W row o → many * W ≤ 32000000
+  rounds-fit e (picks worker n) r = absurd (omega (arith, parts (picks worker n) r, r .formed .0))
+  rounds-fit e (rounds n) r = rw (parts (rounds n) r .1) (mul-le-mul (r .formed .1) few-workers)
+  rounds-fit e (seeded seed n) r = absurd (omega (arith, parts (seeded seed n) r))
+
+  -- ---- the source, by the code
+
+  opens : (o : Order) (s : Source) → picksFrom W s (countOf W o) ≡ picksOf W o → Formed W s → Opens W o s
+  opens o s e f = record { picks = ap (picksFrom W s) (count-picks W o some-workers) ∙ e; formed = f }
+
+  pub opens-same : who < layout.inTurn → (o : Order) → RowOf W row o → Opens W o (record { kind = 0; worker = who; state = 0 })
+  opens-same l (picks worker n) r =
+      let e = parts (picks worker n) r .0 in rw e (opens (picks worker n) _ (from-same W _ n refl) (r .formed .0))
+  opens-same l (rounds n) r = absurd (omega (arith, parts (rounds n) r))
+  opens-same l (seeded seed n) r = absurd (omega (arith, parts (seeded seed n) r))
+
+  pub opens-rounds : who ≡ layout.inTurn → (o : Order) → RowOf W row o → Opens W o (record { kind = 1; worker = 0; state = 0 })
+  opens-rounds e (picks worker n) r = absurd (omega (arith, parts (picks worker n) r, r .formed .0))
+  opens-rounds e (rounds n) r =
+      opens (rounds n) _ (from-turns W _ (n * W) refl ∙ sym (rounds-in-turn W n some-workers)) some-workers
+  opens-rounds e (seeded seed n) r = absurd (omega (arith, parts (seeded seed n) r))
+
+  pub opens-seeded : layout.inTurn < who → (o : Order) → RowOf W row o → Opens W o (record { kind = 2; worker = 0; state = row .seed })
+  opens-seeded l (picks worker n) r = absurd (omega (arith, parts (picks worker n) r, r .formed .0))
+  opens-seeded l (rounds n) r = absurd (omega (arith, parts (rounds n) r))
+  opens-seeded l (seeded seed n) r =
+      opens (seeded seed n) _ (from-seeded W _ n (omega arith) ∙ ap (λ x. seededPicks W (x .seed) n) (r .same)) some-workers

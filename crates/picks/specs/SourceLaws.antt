@@ -1,62 +1,81 @@
--- Laws of what is left to draw. Assumes nothing.
+-- Laws of what sources give. Assumes nothing.
 use Prim.Native.Nat.{ℕ, zero, suc, _+_, _*_, _/_, _%_, _^_, _≤_, _<_}
 use mathlib.Core.Path.{_≡_, refl, sym, ap, _∙_}
-use mathlib.Core.Logic.{_≢_, ⊎-elim}
+use mathlib.Core.Logic.{⊎-elim}
 use mathlib.Core.Bool.{Bool, true, false, cond}
 use mathlib.Core.List.{List, [], _∷_, _++_}
 use native.Mathlib.Omega.{arith}
 use native.Mathlib.Nat.{suc-mul, mod-lt}
-use lib.ListN.{length, replicate, length-replicate}
+use lib.ListN.{length, take, replicate}
 use lib.Dec.{eqb}
 use borrow.Author.Tests.{lt-ltb, le-ltb, eq-eqb, ne-eqb}
 use Rattle.runs.specs.Update.{order}
 use Rattle.plan.specs.Orders.{numbersFrom, times, nextState, seededPicks}
 use Rattle.picks.specs.declared.Source.{Source}
-use Rattle.picks.specs.Sources.{nextInTurn, turns, picksLeft, Formed, Draws}
+use Rattle.picks.specs.declared.Drawn.{Drawn}
+use Rattle.picks.specs.Sources.{nextInTurn, turns, picksFrom, Formed, Draws}
 
--- ---- how many are left
+-- ---- how many picks there are, and the first of them
 
-turns-length : (W k n : ℕ) → length (turns W k n) ≡ n
+pub turns-length : (W k n : ℕ) → length (turns W k n) ≡ n
 unfolding turns
 turns-length W k zero = refl
 turns-length W k (suc n) = ap suc (turns-length W (nextInTurn W k) n)
 
-seeded-length : (W x n : ℕ) → length (seededPicks W x n) ≡ n
+pub seeded-length : (W x n : ℕ) → length (seededPicks W x n) ≡ n
 unfolding seededPicks
 seeded-length W x zero = refl
 seeded-length W x (suc n) = ap suc (seeded-length W (nextState x) n)
 
-length-cond : (b : Bool) (xs ys : List ℕ) (n : ℕ) → length xs ≡ n → length ys ≡ n → length (cond b xs ys) ≡ n
-length-cond true xs ys n h k = h
-length-cond false xs ys n h k = k
+same-take : (w k n : ℕ) → k ≤ n → take k (replicate n w) ≡ replicate k w
+same-take w zero n l = refl
+same-take w (suc k) zero l = absurd (omega arith)
+same-take w (suc k) (suc n) l = ap {B = List ℕ} (λ r. w ∷ r) (same-take w k n (omega arith))
 
-pub picks-left-length : (W : ℕ) (s : Source) → length (picksLeft W s) ≡ s .left
-unfolding picksLeft
-picks-left-length W s =
-    length-cond (eqb (s .kind) 0) _ _ (s .left) (length-replicate (s .left) (s .worker))
-    (length-cond (eqb (s .kind) 1) _ _ (s .left) (turns-length W (s .worker) (s .left)) (seeded-length W (s .state) (s .left)))
+turns-take : (W w k n : ℕ) → k ≤ n → take k (turns W w n) ≡ turns W w k
+unfolding turns
+turns-take W w zero n l = refl
+turns-take W w (suc k) zero l = absurd (omega arith)
+turns-take W w (suc k) (suc n) l = ap {B = List ℕ} (λ r. w ∷ r) (turns-take W (nextInTurn W w) k n (omega arith))
 
-no-length : (xs : List ℕ) → length xs ≡ 0 → xs ≡ []
-no-length [] e = refl
-no-length (x ∷ xs) e = absurd (omega arith)
+seeded-take : (W x k n : ℕ) → k ≤ n → take k (seededPicks W x n) ≡ seededPicks W x k
+unfolding seededPicks
+seeded-take W x zero n l = refl
+seeded-take W x (suc k) zero l = absurd (omega arith)
+seeded-take W x (suc k) (suc n) l =
+    ap {B = List ℕ} (λ r. (nextState x / 2 ^ 32 % W) ∷ r) (seeded-take W (nextState x) k n (omega arith))
 
-pub left-nil : (W : ℕ) (s : Source) → s .left ≡ 0 → picksLeft W s ≡ []
-left-nil W s e = no-length (picksLeft W s) (picks-left-length W s ∙ e)
+cond-take : (b : Bool) (k n : ℕ) (f g : ℕ → List ℕ) → take k (f n) ≡ f k → take k (g n) ≡ g k
+    → take k (cond b (f n) (g n)) ≡ cond b (f k) (g k)
+cond-take true k n f g h i = h
+cond-take false k n f g h i = i
+
+-- fewer picks are the first of more
+pub from-take : (W : ℕ) (s : Source) (k n : ℕ) → k ≤ n → take k (picksFrom W s n) ≡ picksFrom W s k
+unfolding picksFrom
+from-take W s k n l =
+    let other : ℕ → List ℕ = λ m. cond (eqb (s .kind) 1) (turns W (s .worker) m) (seededPicks W (s .state) m) in
+    cond-take (eqb (s .kind) 0) k n (λ m. replicate m (s .worker)) other (same-take (s .worker) k n l)
+    (cond-take (eqb (s .kind) 1) k n (turns W (s .worker)) (seededPicks W (s .state)) (turns-take W (s .worker) k n l)
+    (seeded-take W (s .state) k n l))
+
+pub from-none : (W : ℕ) (s : Source) → picksFrom W s 0 ≡ []
+from-none W s = sym (from-take W s 0 0 (omega arith))
 
 -- ---- by kind
 
-module _ (W : ℕ) (s : Source) where
-  pub left-same : s .kind ≡ 0 → picksLeft W s ≡ replicate (s .left) (s .worker)
-  unfolding picksLeft
-  left-same e = rw (eq-eqb (s .kind) 0 e)
+module _ (W : ℕ) (s : Source) (n : ℕ) where
+  pub from-same : s .kind ≡ 0 → picksFrom W s n ≡ replicate n (s .worker)
+  unfolding picksFrom
+  from-same e = rw (eq-eqb (s .kind) 0 e)
 
-  pub left-turns : s .kind ≡ 1 → picksLeft W s ≡ turns W (s .worker) (s .left)
-  unfolding picksLeft
-  left-turns e = rw (ne-eqb (s .kind) 0 (λ f. omega arith), eq-eqb (s .kind) 1 e)
+  pub from-turns : s .kind ≡ 1 → picksFrom W s n ≡ turns W (s .worker) n
+  unfolding picksFrom
+  from-turns e = rw (ne-eqb (s .kind) 0 (λ f. omega arith), eq-eqb (s .kind) 1 e)
 
-  pub left-seeded : s .kind ≢ 0 → s .kind ≢ 1 → picksLeft W s ≡ seededPicks W (s .state) (s .left)
-  unfolding picksLeft
-  left-seeded e f = rw (ne-eqb (s .kind) 0 e, ne-eqb (s .kind) 1 f)
+  pub from-seeded : 2 ≤ s .kind → picksFrom W s n ≡ seededPicks W (s .state) n
+  unfolding picksFrom
+  from-seeded l = rw (ne-eqb (s .kind) 0 (λ f. omega arith), ne-eqb (s .kind) 1 (λ f. omega arith))
 
 -- ---- the next in turn
 
@@ -71,39 +90,44 @@ next-low W k h = ⊎-elim (λ l. rw (turn-on W k l) l) (λ l. rw (turn-back W k 
 
 -- ---- the first pick and the rest
 
-module _ (W : ℕ) (s : Source) (n : ℕ) (less : n + 1 ≡ s .left) (low : Formed W s) where
-  one-more : s .left ≡ suc n
-  one-more = omega arith
+-- the pick is the source's worker; the next one may be another
+abbrev pub handedOn : Source → ℕ → Drawn
+handedOn s next = record { worker = s .worker; source = record { kind = s .kind; worker = next; state = s .state } }
 
-  pub draws-same : s .kind ≡ 0 → Draws W s (record { worker = s .worker; source = record { kind = s .kind; worker = s .worker; state = s .state; left = n } })
+module _ (W : ℕ) (s : Source) (low : Formed W s) where
+  draws-same : s .kind ≡ 0 → Draws W s (handedOn s (s .worker))
   draws-same k =
       record {
-        picks = left-same W s k ∙ rw one-more (ap {B = List ℕ} (λ r. s .worker ∷ r) (sym (left-same W _ k)));
+        picks = λ n. from-same W s (suc n) k ∙ ap {B = List ℕ} (λ r. s .worker ∷ r) (sym (from-same W _ n k));
         low = low;
         formed = low;
-        less = less;
       }
 
-  pub draws-turn : s .kind ≡ 1 → (next : ℕ) → next ≡ nextInTurn W (s .worker)
-      → Draws W s (record { worker = s .worker; source = record { kind = s .kind; worker = next; state = s .state; left = n } })
+  draws-turn : s .kind ≡ 1 → Draws W s (handedOn s (nextInTurn W (s .worker)))
   unfolding turns
-  draws-turn k next e =
+  draws-turn k =
       record {
-        picks = left-turns W s k ∙ rw (one-more, e) (ap {B = List ℕ} (λ r. s .worker ∷ r) (sym (left-turns W _ k)));
+        picks = λ n. from-turns W s (suc n) k ∙ ap {B = List ℕ} (λ r. s .worker ∷ r) (sym (from-turns W _ n k));
         low = low;
-        formed = rw e (next-low W (s .worker) low);
-        less = less;
+        formed = next-low W (s .worker) low;
       }
 
-  pub draws-seeded : s .kind ≢ 0 → s .kind ≢ 1 → (state worker : ℕ) → state ≡ nextState (s .state) → worker ≡ state / 2 ^ 32 % W
-      → Draws W s (record { worker = worker; source = record { kind = s .kind; worker = s .worker; state = state; left = n } })
+  pub draws-step : s .kind < 2 → (next : ℕ) → (s .kind ≡ 0 → next ≡ s .worker) → (s .kind ≡ 1 → next ≡ nextInTurn W (s .worker))
+      → Draws W s (handedOn s next)
+  draws-step l next stays goes =
+      ⊎-elim (λ (k : s .kind < 1). let e : s .kind ≡ 0 = omega arith in rw (stays e) (draws-same e))
+      (λ (k : 1 ≤ s .kind). let e : s .kind ≡ 1 = omega arith in rw (goes e) (draws-turn e)) (order (s .kind) 1)
+
+  pub draws-seeded : 2 ≤ s .kind → (state worker : ℕ) → state ≡ nextState (s .state) → worker ≡ state / 2 ^ 32 % W
+      → Draws W s (record { worker = worker; source = record { kind = s .kind; worker = s .worker; state = state } })
   unfolding seededPicks
-  draws-seeded k h state worker e f =
+  draws-seeded k state worker e f =
       record {
-        picks = left-seeded W s k h ∙ rw (one-more, f, e) (ap {B = List ℕ} (λ r. (nextState (s .state) / 2 ^ 32 % W) ∷ r) (sym (left-seeded W _ k h)));
+        picks = λ n.
+            from-seeded W s (suc n) k
+            ∙ rw (f, e) (ap {B = List ℕ} (λ r. (nextState (s .state) / 2 ^ 32 % W) ∷ r) (sym (from-seeded W _ n k)));
         low = rw f (mod-lt (state / 2 ^ 32) (omega arith));
         formed = low;
-        less = less;
       }
 
 -- ---- rounds are workers in turn from the first

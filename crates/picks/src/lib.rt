@@ -1,28 +1,28 @@
-// The picks of an order line, drawn one at a time: see specs/Sources.antt for what is left to draw.
+// The picks of an order line, drawn one at a time: see specs/Sources.antt for what a source gives.
 ghost use mathlib.Core.Path.{_≡_};
-ghost use mathlib.Core.Bool.{true, false};
 ghost use Prim.Native.Nat.{ℕ, _≤_, _<_};
+ghost use lib.ListN.{length};
 ghost use Rattle.plan.specs.Plan.{Order};
-ghost use Rattle.reader.specs.PassOrders.{asOrder};
-ghost use Rattle.picks.specs.Sources.{nextInTurn, Formed, Draws, LineFormed, Opens};
+ghost use Rattle.plan.specs.Orders.{picksOf};
+ghost use Rattle.picks.specs.Sources.{nextInTurn, Formed, Draws, RowOf, Opens};
+use kept::layout;
+use kept::orders::OrderRow;
 use plan::seed::next_state;
 use plan::seed::seeded_worker;
-use reader::order::OrderLine;
 
-// The kinds of a source.
+// The kinds of a source. Of the first two the kind is also the step from one worker to the next.
 const SAME: u64 = 0;
 
 const IN_TURN: u64 = 1;
 
 const SEEDED: u64 = 2;
 
-// The picks that are left of an order line: the same worker, workers in turn, or seeded ones. `worker` is the one, or the next in turn; `state`
-// is the generator's.
+// Picks without end: the same worker, workers in turn, or seeded ones. `worker` is the one, or the next in turn; `state` is the
+// generator's.
 pub struct Source {
     pub kind: u64,
     pub worker: u64,
     pub state: u64,
-    pub left: u64,
 }
 
 pub struct Drawn {
@@ -30,85 +30,70 @@ pub struct Drawn {
     pub source: Source,
 }
 
-// No picks left.
-pub fn empty() -> Source
-    ensures { λ r. ⌜ (r .left ≡ 0) × (r .worker ≡ 0) ⌝ }
+// How many picks an order line has.
+pub fn count_of(order: OrderRow, workers: u64) -> u64
+    requires { ⌜ (0 < workers) × (workers ≤ 32) × ((o : Order) × RowOf workers order o) ⌝ }
+    ensures { λ r. ⌜ ((o : Order) → RowOf workers order o → r ≡ length (picksOf workers o)) ⌝ }
 {
-    Source {
-        kind: SAME,
-        worker: 0,
-        state: 0,
-        left: 0,
+    let n = order.code / layout::WHO;
+    if order.code % layout::WHO == layout::IN_TURN {
+        return n * workers;
     }
+    n
 }
 
-// The picks of an order line that was read; none where there was none.
-pub fn source_of(line: OrderLine, workers: u64) -> Source
-    requires { ⌜ (0 < workers) × (workers ≤ 32) × LineFormed workers line ⌝ }
-    ensures { λ r. ⌜ Opens workers line r ⌝ }
+// The picks of an order line, whatever the number of workers.
+pub fn source_of(order: OrderRow) -> Source
+    ensures { λ r. ⌜ ((W : ℕ) (o : Order) → 0 < W → W ≤ 32 → RowOf W order o → Opens W o r) ⌝ }
 {
-    match line {
-        OrderLine::End => empty(),
-        OrderLine::Picks { worker, n, next: _ } => Source {
+    let who = order.code % layout::WHO;
+    if who < layout::IN_TURN {
+        return Source {
             kind: SAME,
-            worker,
+            worker: who,
             state: 0,
-            left: n,
-        },
-        OrderLine::Rounds { n, next: _ } => Source {
+        };
+    }
+    if who == layout::IN_TURN {
+        return Source {
             kind: IN_TURN,
             worker: 0,
             state: 0,
-            left: n * workers,
-        },
-        OrderLine::Seeded { seed, n, next: _ } => Source {
-            kind: SEEDED,
-            worker: 0,
-            state: seed,
-            left: n,
-        },
+        };
+    }
+    Source {
+        kind: SEEDED,
+        worker: 0,
+        state: order.seed,
     }
 }
 
-// The worker whose turn follows; after the last the first.
-fn next_in_turn(worker: u64, workers: u64) -> u64
-    requires { ⌜ worker < workers ⌝ }
-    ensures { λ r. ⌜ r ≡ nextInTurn workers worker ⌝ }
+// The same worker for step 0, the next in turn for step 1: after the last the first.
+fn next_in_turn(worker: u64, step: u64, workers: u64) -> u64
+    requires { ⌜ (worker < workers) × (step ≤ 1) ⌝ }
+    ensures { λ r. ⌜ (step ≡ 0 → r ≡ worker) × (step ≡ 1 → r ≡ nextInTurn workers worker) ⌝ }
 {
-    let next = worker + 1;
+    let next = worker + step;
     if next < workers {
         return next;
     }
     0
 }
 
-// The next pick, and what is left after it.
+// The next pick, and those after it.
 pub fn draw(source: Source, workers: u64) -> Drawn
-    requires { ⌜ (0 < source .left) × Formed workers source ⌝ }
+    requires { ⌜ Formed workers source ⌝ }
     ensures { λ r. ⌜ Draws workers source r ⌝ }
 {
     let kind = source.kind;
     let worker = source.worker;
-    let left = source.left - 1;
-    if kind == SAME {
+    if kind < SEEDED {
         return Drawn {
             worker,
             source: Source {
                 kind,
-                worker,
+                worker: next_in_turn(worker, kind, workers),
                 state: source.state,
-                left,
-            },
-        };
-    }
-    if kind == IN_TURN {
-        return Drawn {
-            worker,
-            source: Source {
-                kind,
-                worker: next_in_turn(worker, workers),
-                state: source.state,
-                left,
             },
         };
     }
@@ -119,47 +104,6 @@ pub fn draw(source: Source, workers: u64) -> Drawn
             kind,
             worker,
             state,
-            left,
         },
-    }
-}
-
-// The place after the line, or `from` where there was none.
-pub fn after_line(line: OrderLine, from: usize) -> usize
-    ensures { λ r. ⌜ ((o : Order) (next : ℕ) → line ≡ asOrder o next → r ≡ next) × (line ≡ OrderLine.End → r ≡ from) ⌝ }
-{
-    match line {
-        OrderLine::End => from,
-        OrderLine::Picks {
-            worker: _,
-            n: _,
-            next,
-        } => next,
-        OrderLine::Rounds { n: _, next } => next,
-        OrderLine::Seeded {
-            seed: _,
-            n: _,
-            next,
-        } => next,
-    }
-}
-
-// Whether there was no order line.
-pub fn is_end(line: OrderLine) -> bool
-    ensures { λ r. ⌜ ((o : Order) (next : ℕ) → line ≡ asOrder o next → r ≡ false) × (line ≡ OrderLine.End → r ≡ true) ⌝ }
-{
-    match line {
-        OrderLine::End => true,
-        OrderLine::Picks {
-            worker: _,
-            n: _,
-            next: _,
-        } => false,
-        OrderLine::Rounds { n: _, next: _ } => false,
-        OrderLine::Seeded {
-            seed: _,
-            n: _,
-            next: _,
-        } => false,
     }
 }

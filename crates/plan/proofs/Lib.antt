@@ -1,4 +1,2 @@
-pub mod Basics
-pub mod Fields
-pub mod Faults
 pub mod Halves
+pub mod Fields

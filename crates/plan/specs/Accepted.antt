@@ -1,20 +1,23 @@
--- A text that is accepted means a well-formed plan.
-use Prim.Native.Nat.{ℕ, zero, suc, _^_, _≤_, _<_}
-use mathlib.Core.Path.{_≡_, refl}
-use mathlib.Core.Bool.{Bool, true, false, cond, _&&_, and-eq-true-iff}
+-- A text that is accepted means a well-formed plan, with no more order lines than its length has room for.
+use Prim.Native.Nat.{ℕ, zero, suc, _+_, _*_, _^_, _≤_, _<_}
+use mathlib.Core.Path.{_≡_, refl, sym}
+use mathlib.Core.Bool.{Bool, true, false, cond, not, _&&_, _||_, and-eq-true-iff}
 use mathlib.Core.List.{List, [], _∷_, _++_, map}
 use mathlib.Core.Option.{Option, none, some, Option·map, Option·some-ne-none}
 use native.Mathlib.Omega.{arith}
 use lib.ListN.{length, getD, length-append}
 use lib.Dec.{eqb, leb}
-use borrow.Author.Tests.{ltb-true, leb-true, eqb-true, not-true}
+use borrow.Author.Tests.{ltb-true, ltb-false, leb-true, eqb-true, eqb-false, not-true}
 use Rattle.refusals.specs.declared.Refusal.{Refusal}
-use Rattle.refusals.specs.declared.Refusal.the-variants.{OutOfRange}
+use Rattle.refusals.specs.declared.Refusal.the-variants.{Misplaced, TextTooLong}
 use Rattle.runs.specs.Every.{every}
-use Rattle.text.specs.Text.{lineFeed, tab, within, allOf, split, numberOf}
-use Rattle.plan.specs.Plan.{Access, Task, Order, picks, rounds, seeded, Plan}
-use Rattle.plan.specs.Line.{'P', 'R', 'S', 'T', 'W', Line, workers, task, order, isLabel, accessOf, oneNumber, withBoth, twoNumbers, withCost, labelAndCost, lineBy, lineOfFields, lineOf}
-use Rattle.plan.specs.Reading.{Reading, accepted, refused, atStart, orderInRange, repeats, Ask, asked, firstRefusal, fault, add, readLine, readEnd, readLines, emptyPlan, isTooLong, reading}
+use Rattle.runs.specs.Update.{clash}
+use Rattle.text.specs.Text.{lineFeed, tab, within, allOf, onFirst, split, numberOf}
+use Rattle.plan.specs.Plan.{Access, Task, Order, picks, rounds, seeded, Plan, emptyPlan}
+use Rattle.plan.specs.Line.{'P', 'R', 'S', 'T', 'W', Ask, Line, atStart, hasOrders, repeats, isLabel, accessOf}
+use Rattle.plan.specs.Line.{workersLine, taskLine, orderLine, picksLine, roundsLine, seededLine}
+use Rattle.plan.specs.Line.{oneNumber, withBoth, twoNumbers, withCost, labelAndCost, lineBy, lineOfFields, lineOf}
+use Rattle.plan.specs.Reading.{Reading, accepted, refused, firstRefusal, readLine, readEnd, readLines, isTooLong, reading}
 
 -- each element of a list, by its number
 abbrev pub Each : {A : Type 0} → (A → Type 0) → List A → Type 0
@@ -45,13 +48,17 @@ pub record WellFormed (p : Plan) : Type 0 where
 both : (a b : Bool) → a && b ≡ true → (a ≡ true) × (b ≡ true)
 both a b = and-eq-true-iff a b .0
 
+neither : (a b : Bool) → a || b ≡ false → a ≡ false
+neither true b e = e
+neither false b e = refl
+
 pub every-each : {A : Type 0} (f : A → Bool) (xs : List A) → every f xs ≡ true → Each (λ x. f x ≡ true) xs
 unfolding every
 every-each f [] e i l d = absurd (omega arith)
 every-each f (x ∷ xs) e zero l d = (both (f x) (every f xs) e) .0
 every-each f (x ∷ xs) e (suc i) l d = every-each f xs ((both (f x) (every f xs) e) .1) i (omega arith) d
 
-each-more : {A : Type 0} (P : A → Type 0) (xs : List A) (x : A) → Each P xs → P x → Each P (xs ++ x ∷ [])
+pub each-more : {A : Type 0} (P : A → Type 0) (xs : List A) (x : A) → Each P xs → P x → Each P (xs ++ x ∷ [])
 each-more P [] x h new zero l d = new
 each-more P [] x h new (suc i) l d = absurd (omega arith)
 each-more P (y ∷ xs) x h new zero l d = h 0 (omega arith) d
@@ -60,67 +67,42 @@ each-more P (y ∷ xs) x h new (suc i) l d = each-more P xs x (λ j k. h (suc j)
 within-bounds : (low high n : ℕ) → within low high n ≡ true → (low ≤ n) × (n ≤ high)
 within-bounds low high n e = let (a, b) = both _ _ e in (leb-true _ _ a, leb-true _ _ b)
 
--- ---- the form of a line: a task's label
+-- ---- the bytes of parts, each with a separator
 
--- of a line's form only this is needed: a task has a label of 1 to 16 bytes
-abbrev Labelled : Option Line → Type 0
-Labelled none = Unit {0}
-Labelled (some (workers n)) = Unit {0}
-Labelled (some (task t)) = (1 ≤ length (t .label)) × (length (t .label) ≤ 16)
-Labelled (some (order o)) = Unit {0}
+unfoldable size : List (List ℕ) → ℕ
+size [] = 0
+size (part ∷ parts) = length part + 1 + size parts
 
-labelled-cond : (b : Bool) (x y : Option Line) → Labelled x → Labelled y → Labelled (cond b x y)
-labelled-cond true x y h k = h
-labelled-cond false x y h k = k
-
-labelled-one : (make : ℕ → Line) → ((n : ℕ) → Labelled (some (make n))) → (fields : List (List ℕ)) → Labelled (oneNumber make fields)
-labelled-one make h [] = tt
-labelled-one make h (f ∷ []) = go (numberOf f)
+split-some : (separator : ℕ) (text : List ℕ) → 1 ≤ length (split separator text)
+unfolding split
+split-some separator [] = omega arith
+split-some separator (b ∷ bs) = go (eqb b separator) (split separator bs)
   where
-    go : (x : Option ℕ) → Labelled (Option·map make x)
-    go none = tt
-    go (some n) = h n
-labelled-one make h (f ∷ g ∷ gs) = tt
+    go : (t : Bool) (parts : List (List ℕ)) → 1 ≤ length (cond t ([] ∷ parts) (onFirst b parts))
+    go true parts = omega arith
+    go false [] = omega arith
+    go false (part ∷ parts) = omega arith
 
-labelled-two : (make : ℕ → ℕ → Line) → ((m n : ℕ) → Labelled (some (make m n))) → (fields : List (List ℕ)) → Labelled (twoNumbers make fields)
-labelled-two make h [] = tt
-labelled-two make h (f ∷ []) = tt
-labelled-two make h (f ∷ g ∷ []) = go (numberOf f) (numberOf g)
+split-size : (separator : ℕ) (text : List ℕ) → size (split separator text) ≡ length text + 1
+unfolding split size
+split-size separator [] = refl
+split-size separator (b ∷ bs) = go (eqb b separator) (split separator bs) (split-some separator bs) (split-size separator bs)
   where
-    go : (x y : Option ℕ) → Labelled (withBoth make x y)
-    go none y = tt
-    go (some m) none = tt
-    go (some m) (some n) = h m n
-labelled-two make h (f ∷ g ∷ k ∷ ks) = tt
+    go : (t : Bool) (parts : List (List ℕ)) → 1 ≤ length parts → size parts ≡ length bs + 1
+        → size (cond t ([] ∷ parts) (onFirst b parts)) ≡ suc (length bs) + 1
+    go true parts l h = omega arith
+    go false [] l h = absurd (omega arith)
+    go false (part ∷ parts) l h = omega arith
 
-labelled-task : (fields : List (List ℕ)) → Labelled (labelAndCost fields)
-labelled-task [] = tt
-labelled-task (f ∷ []) = tt
-labelled-task (f ∷ g ∷ gs) = go (isLabel f) refl (numberOf g) (allOf (map accessOf gs))
-  where
-    go : (b : Bool) → isLabel f ≡ b → (c : Option ℕ) (xs : Option (List Access)) → Labelled (cond b (withCost f c xs) none)
-    go false e c xs = tt
-    go true e none xs = tt
-    go true e (some c) none = tt
-    go true e (some c) (some xs) = within-bounds 1 16 (length f) ((both _ _ e) .0)
+-- ---- what is read so far
 
-labelled-by : (letter : ℕ) (fields : List (List ℕ)) → Labelled (lineBy letter fields)
-unfolding lineBy
-labelled-by letter fields =
-    labelled-cond (eqb letter 'W') _ _ (labelled-one workers (λ n. tt) fields)
-    (labelled-cond (eqb letter 'T') _ _ (labelled-task fields)
-    (labelled-cond (eqb letter 'P') _ _ (labelled-two (λ w n. order (picks w n)) (λ w n. tt) fields)
-    (labelled-cond (eqb letter 'R') _ _ (labelled-one (λ n. order (rounds n)) (λ n. tt) fields)
-    (labelled-cond (eqb letter 'S') _ none (labelled-two (λ s n. order (seeded s n)) (λ s n. tt) fields) tt))))
-
-labelled-fields : (fields : List (List ℕ)) → Labelled (lineOfFields fields)
-unfolding lineOfFields
-labelled-fields [] = tt
-labelled-fields ([] ∷ fields) = tt
-labelled-fields ((letter ∷ []) ∷ fields) = labelled-by letter fields
-labelled-fields ((letter ∷ b ∷ bs) ∷ fields) = tt
-
--- ---- a line that is added
+-- as a well-formed plan; before the W line there is nothing
+record Begun (p : Plan) : Type 0 where
+  pub fresh : p .workers ≡ 0 → (length (p .tasks) ≡ 0) × (length (p .orders) ≡ 0)
+  pub workers-few : p .workers ≤ 32
+  pub tasks-few : length (p .tasks) ≤ 128
+  pub tasks : Each TaskFormed (p .tasks)
+  pub orders : Each (OrderFormed (p .workers)) (p .orders)
 
 -- all that is asked holds, where there is no fault
 abbrev Granted : List Ask → Type 0
@@ -137,96 +119,236 @@ granted (a ∷ asks) e = go (a .holds) refl e (granted asks)
     go true h e rest = (h, rest e)
     go false h e rest = absurd (Option·some-ne-none (a .otherwise) e)
 
-order-formed : (W : ℕ) (o : Order) → orderInRange W o ≡ true → OrderFormed W o
-order-formed W (picks worker n) e = let (a, b) = both _ _ e in let (l, h) = within-bounds 1 4096 n b in (ltb-true _ _ a, l, h)
-order-formed W (rounds n) e = within-bounds 1 1000000 n e
-order-formed W (seeded seed n) e = let (a, b) = both _ _ e in let (l, h) = within-bounds 1 1000000 n b in (ltb-true _ _ a, l, h)
+-- ---- one line more, by its kind: an order line has four bytes or more
 
--- a plan with its W line stays well formed
-kept : (p : Plan) (l : Line) → WellFormed p → Labelled (some l) → Granted (asked p l) → WellFormed (add p l)
-unfolding asked
-kept p (workers n) h a f = absurd (omega (arith, h .workers-some, eqb-true (p .workers) 0 (f .0)))
-kept p (task t) h (some-label, short-label) f =
-    let (low-cost, low-addresses) = both _ _ (f .1 .0) in
-    let (few-tasks, few-accesses) = both _ _ (f .1 .1 .0) in
-    record {
-      workers-some = h .workers-some;
-      workers-few = h .workers-few;
-      tasks-few = omega (arith, length-append (p .tasks) (t ∷ []), ltb-true (length (p .tasks)) 128 few-tasks);
-      tasks =
-          each-more TaskFormed (p .tasks) t (h .tasks)
-          (record {
-            label-some = some-label;
-            label-short = short-label;
-            cost-low = leb-true _ _ low-cost;
-            accesses-few = leb-true (length (t .accesses)) 4 few-accesses;
-            addresses-low = λ i l d. leb-true _ _ (every-each (λ a. leb (a .address) 65535) (t .accesses) low-addresses i l d);
-            addresses-once = not-true (repeats (t .accesses)) (f .1 .1 .1 .0);
-          });
-      orders = h .orders;
-    }
-kept p (order o) h a f =
-    record {
-      workers-some = h .workers-some;
-      workers-few = h .workers-few;
-      tasks-few = h .tasks-few;
-      tasks = h .tasks;
-      orders = each-more (OrderFormed (p .workers)) (p .orders) o (h .orders) (order-formed (p .workers) o (f .1 .0));
-    }
+module _ (p : Plan) (h : Begun p) (k : ℕ) where
+  record Grows (q : Plan) : Type 0 where
+    pub begun : Begun q
+    pub room : 4 * length (q .orders) ≤ 4 * length (p .orders) + k
 
--- ---- line after line
+  abbrev Keeps : Option Line → Type 0
+  Keeps none = Unit {0}
+  Keeps (some l) = Granted (l .asks) → Grows (l .plan)
 
-abbrev Sound : Reading → Type 0
-Sound (accepted p) = WellFormed p
-Sound (refused r n) = Unit {0}
+  keeps-workers : (n : ℕ) → Keeps (some (workersLine p n))
+  keeps-workers n (start, range) =
+      let (low, high) = within-bounds 1 32 n (range .0) in
+      let (no-tasks, no-orders) = h .fresh (eqb-true (p .workers) 0 start) in
+      record {
+        begun =
+            record {
+              fresh = λ e. absurd (omega arith);
+              workers-few = high;
+              tasks-few = h .tasks-few;
+              tasks = h .tasks;
+              orders = λ i l. absurd (omega arith);
+            };
+        room = omega arith;
+      }
 
-sound-unless : (b : Bool) (r : Refusal) (n : ℕ) (x : Reading) → Sound x → Sound (cond b (refused r n) x)
-sound-unless true r n x h = tt
-sound-unless false r n x h = h
+  started : (b : Bool) → not (atStart p || b) ≡ true → 1 ≤ p .workers
+  started b e = some-workers (p .workers) (eqb-false (p .workers) 0 (neither (atStart p) b (not-true _ e)))
+    where
+      some-workers : (n : ℕ) → (n ≡ 0 → ⊥) → 1 ≤ n
+      some-workers zero f = absurd (f refl)
+      some-workers (suc n) f = omega arith
 
-sound-line : (p : Plan) (n : ℕ) (x : Option Line) (next : Plan → Reading) → WellFormed p → Labelled x → ((q : Plan) → WellFormed q → Sound (next q)) → Sound (readLine p n x next)
-sound-line p n none next h a k = tt
-sound-line p n (some l) next h a k = go (fault p l) refl
+  keeps-task : (t : Task) → isLabel (t .label) ≡ true → Keeps (some (taskLine p t))
+  keeps-task t formed (place, range) =
+      let (low-cost, low-addresses) = both _ _ (range .0) in
+      let (few-tasks, few-accesses) = both _ _ (range .1 .0) in
+      let (some-label, short-label) = within-bounds 1 16 (length (t .label)) ((both _ _ formed) .0) in
+      let some-workers = started (hasOrders p) place in
+      record {
+        begun =
+            record {
+              fresh = λ e. absurd (omega arith);
+              workers-few = h .workers-few;
+              tasks-few = omega (arith, length-append (p .tasks) (t ∷ []), ltb-true (length (p .tasks)) 128 few-tasks);
+              tasks =
+                  each-more TaskFormed (p .tasks) t (h .tasks)
+                  (record {
+                    label-some = some-label;
+                    label-short = short-label;
+                    cost-low = leb-true _ _ low-cost;
+                    accesses-few = leb-true (length (t .accesses)) 4 few-accesses;
+                    addresses-low = λ i l d. leb-true _ _ (every-each (λ a. leb (a .address) 65535) (t .accesses) low-addresses i l d);
+                    addresses-once = not-true (repeats (t .accesses)) (range .1 .1 .0);
+                  });
+              orders = h .orders;
+            };
+        room = omega arith;
+      }
+
+  keeps-order : (inRange : Bool) (o : Order) → (inRange ≡ true → OrderFormed (p .workers) o) → 4 ≤ k → Keeps (some (orderLine p inRange o))
+  keeps-order inRange o formed long (place, range) =
+      let some-workers = started false (only-start (atStart p) place) in
+      record {
+        begun =
+            record {
+              fresh = λ e. absurd (omega arith);
+              workers-few = h .workers-few;
+              tasks-few = h .tasks-few;
+              tasks = h .tasks;
+              orders = each-more (OrderFormed (p .workers)) (p .orders) o (h .orders) (formed (range .0));
+            };
+        room = omega (arith, length-append (p .orders) (o ∷ []));
+      }
+    where
+      only-start : (b : Bool) → not b ≡ true → not (b || false) ≡ true
+      only-start true e = e
+      only-start false e = refl
+
+  keeps-picks : (worker n : ℕ) → 4 ≤ k → Keeps (some (picksLine p worker n))
+  keeps-picks worker n =
+      keeps-order _ (picks worker n) (λ e. let (a, b) = both _ _ e in let (l, u) = within-bounds 1 4096 n b in (ltb-true _ _ a, l, u))
+
+  keeps-rounds : (n : ℕ) → 4 ≤ k → Keeps (some (roundsLine p n))
+  keeps-rounds n = keeps-order _ (rounds n) (within-bounds 1 1000000 n)
+
+  keeps-seeded : (seed n : ℕ) → 4 ≤ k → Keeps (some (seededLine p seed n))
+  keeps-seeded seed n =
+      keeps-order _ (seeded seed n) (λ e. let (a, b) = both _ _ e in let (l, u) = within-bounds 1 1000000 n b in (ltb-true _ _ a, l, u))
+
+  -- ---- by the fields after the first
+
+  -- a number has a digit
+  numbered : (make : ℕ → Line) (f : List ℕ) → (1 ≤ length f → (n : ℕ) → Keeps (some (make n))) → Keeps (Option·map make (numberOf f))
+  unfolding numberOf
+  numbered make [] keeps = tt
+  numbered make (b ∷ bs) keeps = go (numberOf (b ∷ bs))
+    where
+      go : (x : Option ℕ) → Keeps (Option·map make x)
+      go none = tt
+      go (some n) = keeps (omega arith) n
+
+  keeps-one : (make : ℕ → Line) → ((n : ℕ) → 4 ≤ k → Keeps (some (make n)))
+      → (fields : List (List ℕ)) → k ≡ 2 + size fields → Keeps (oneNumber make fields)
+  unfolding size
+  keeps-one make keeps [] e = tt
+  keeps-one make keeps (f ∷ []) e = numbered make f (λ l n. keeps n (omega arith))
+  keeps-one make keeps (f ∷ g ∷ gs) e = tt
+
+  keeps-two : (make : ℕ → ℕ → Line) → ((m n : ℕ) → 4 ≤ k → Keeps (some (make m n)))
+      → (fields : List (List ℕ)) → k ≡ 2 + size fields → Keeps (twoNumbers make fields)
+  unfolding size
+  keeps-two make keeps [] e = tt
+  keeps-two make keeps (f ∷ []) e = tt
+  keeps-two make keeps (f ∷ g ∷ []) e = go (numberOf f) (numberOf g)
+    where
+      go : (x y : Option ℕ) → Keeps (withBoth make x y)
+      go none y = tt
+      go (some m) none = tt
+      go (some m) (some n) = keeps m n (omega arith)
+  keeps-two make keeps (f ∷ g ∷ g' ∷ gs) e = tt
+
+  keeps-labelled : (fields : List (List ℕ)) → Keeps (labelAndCost (taskLine p) fields)
+  keeps-labelled [] = tt
+  keeps-labelled (f ∷ []) = tt
+  keeps-labelled (f ∷ g ∷ gs) = go (isLabel f) refl (numberOf g) (allOf (map accessOf gs))
+    where
+      go : (b : Bool) → isLabel f ≡ b → (c : Option ℕ) (xs : Option (List Access)) → Keeps (cond b (withCost (taskLine p) f c xs) none)
+      go false e c xs = tt
+      go true e none xs = tt
+      go true e (some c) none = tt
+      go true e (some c) (some xs) = keeps-task _ e
+
+  keeps-cond : (b : Bool) (x y : Option Line) → Keeps x → Keeps y → Keeps (cond b x y)
+  keeps-cond true x y f g = f
+  keeps-cond false x y f g = g
+
+  keeps-by : (letter : ℕ) (fields : List (List ℕ)) → k ≡ 2 + size fields → Keeps (lineBy p letter fields)
+  unfolding lineBy
+  keeps-by letter fields e =
+      keeps-cond (eqb letter 'W') _ _ (keeps-one (workersLine p) (λ n l. keeps-workers n) fields e)
+      (keeps-cond (eqb letter 'T') _ _ (keeps-labelled fields)
+      (keeps-cond (eqb letter 'P') _ _ (keeps-two (picksLine p) keeps-picks fields e)
+      (keeps-cond (eqb letter 'R') _ _ (keeps-one (roundsLine p) keeps-rounds fields e)
+      (keeps-cond (eqb letter 'S') _ none (keeps-two (seededLine p) keeps-seeded fields e) tt))))
+
+  keeps-fields : (fields : List (List ℕ)) → k ≡ size fields → Keeps (lineOfFields p fields)
+  unfolding lineOfFields size
+  keeps-fields [] e = tt
+  keeps-fields ([] ∷ fields) e = tt
+  keeps-fields ((letter ∷ []) ∷ fields) e = keeps-by letter fields e
+  keeps-fields ((letter ∷ b ∷ bs) ∷ fields) e = tt
+
+-- ---- line after line, in a text of k bytes
+
+abbrev Sound : ℕ → Reading → Type 0
+Sound k (accepted p) = WellFormed p × (4 * length (p .orders) ≤ k)
+Sound k (refused r n) = Unit {0}
+
+sound-line : (k : ℕ) (p : Plan) (h : Begun p) (part : List ℕ) (n : ℕ) (next : Plan → Reading)
+    → ((q : Plan) → Grows p h (length part + 1) q → Sound k (next q)) → Sound k (readLine n (lineOf p part) next)
+sound-line k p h part n next rest =
+    go (lineOf p part) (keeps-fields p h (length part + 1) (split tab part) (sym (split-size tab part)))
   where
-    go : (x : Option Refusal) → fault p l ≡ x → Sound (elim x [ none ↦ next (add p l) | some r ↦ refused r n ])
-    go none e = k (add p l) (kept p l h a (granted (asked p l) e))
-    go (some r) e = tt
+    go : (x : Option Line) → Keeps p h (length part + 1) x → Sound k (readLine n x next)
+    go none f = tt
+    go (some l) f = by (firstRefusal (l .asks)) refl
+      where
+        by : (x : Option Refusal) → firstRefusal (l .asks) ≡ x → Sound k (elim x [ none ↦ next (l .plan) | some r ↦ refused r n ])
+        by none e = rest (l .plan) (f (granted (l .asks) e))
+        by (some r) e = tt
 
-sound-end : (p : Plan) (n : ℕ) (part : List ℕ) → WellFormed p → Sound (readEnd p n part)
-sound-end p n [] h = sound-unless (atStart p) _ n (accepted p) h
-sound-end p n (b ∷ bs) h = tt
-
-sound-lines : (parts : List (List ℕ)) (p : Plan) (n : ℕ) → WellFormed p → Sound (readLines p n parts)
-unfolding readLines
-sound-lines [] p n h = tt
-sound-lines (part ∷ []) p n h = sound-end p n part h
-sound-lines (part ∷ next ∷ parts) p n h = sound-line p n (lineOf part) _ h (labelled-fields (split tab part)) (λ q. sound-lines (next ∷ parts) q (suc n))
-
--- the first line is a W line
-first-line : (x : Option Line) (next : Plan → Reading) → ((q : Plan) → WellFormed q → Sound (next q)) → Sound (readLine emptyPlan 1 x next)
-unfolding asked firstRefusal
-first-line none next k = tt
-first-line (some (workers n)) next k = go (within 1 32 n) refl
+sound-end : (k : ℕ) (p : Plan) (n : ℕ) (part : List ℕ) → Begun p → 4 * length (p .orders) ≤ k → Sound k (readEnd p n part)
+sound-end k p n [] h l = go (atStart p) refl
   where
-    go : (b : Bool) → within 1 32 n ≡ b → Sound (elim (cond {A = Option Refusal} b none (some OutOfRange)) [ none ↦ next (add emptyPlan (workers n)) | some r ↦ refused r 1 ])
-    go true e =
-        let (low, high) = within-bounds 1 32 n e in
-        k (add emptyPlan (workers n))
-        (record { workers-some = low; workers-few = high; tasks-few = omega arith; tasks = λ i l. absurd (omega arith); orders = λ i l. absurd (omega arith) })
-    go false e = tt
-first-line (some (task t)) next k = tt
-first-line (some (order o)) next k = tt
+    go : (b : Bool) → atStart p ≡ b → Sound k (cond b (refused Misplaced n) (accepted p))
+    go true e = tt
+    go false e = (
+      record {
+        workers-some = omega (arith, eqb-false (p .workers) 0 e);
+        workers-few = h .workers-few;
+        tasks-few = h .tasks-few;
+        tasks = h .tasks;
+        orders = h .orders;
+      },
+      l,
+    )
+sound-end k p n (b ∷ bs) h l = tt
 
-sound-text : (parts : List (List ℕ)) → Sound (readLines emptyPlan 1 parts)
-unfolding readLines
-sound-text [] = tt
-sound-text ([] ∷ []) = tt
-sound-text ((b ∷ bs) ∷ []) = tt
-sound-text (part ∷ next ∷ parts) = first-line (lineOf part) _ (λ q. sound-lines (next ∷ parts) q 2)
+sound-lines : (k : ℕ) (parts : List (List ℕ)) (p : Plan) (n : ℕ) → Begun p → 4 * length (p .orders) + size parts ≤ k + 1
+    → Sound k (readLines p n parts)
+unfolding readLines size
+sound-lines k [] p n h l = tt
+sound-lines k (part ∷ []) p n h l = sound-end k p n part h (omega arith)
+sound-lines k (part ∷ next ∷ parts) p n h l =
+    sound-line k p h part n _ (λ q g. sound-lines k (next ∷ parts) q (suc n) (g .begun) (omega (arith, g .room)))
 
-sound-reading : (text : List ℕ) → Sound (reading text)
+nothing-read : Begun emptyPlan
+nothing-read =
+    record {
+      fresh = λ e. (refl, refl);
+      workers-few = omega arith;
+      tasks-few = omega arith;
+      tasks = λ i l. absurd (omega arith);
+      orders = λ i l. absurd (omega arith);
+    }
+
+sound-reading : (text : List ℕ) → Sound (length text) (reading text)
 unfolding reading
-sound-reading text = sound-unless (isTooLong text) _ 0 _ (sound-text (split lineFeed text))
+sound-reading text = go (isTooLong text)
+  where
+    go : (b : Bool) → Sound (length text) (cond b (refused TextTooLong 0) (readLines emptyPlan 1 (split lineFeed text)))
+    go true = tt
+    go false = sound-lines (length text) (split lineFeed text) emptyPlan 1 nothing-read (omega (arith, split-size lineFeed text))
 
-pub accepted-well-formed : (text : List ℕ) (p : Plan) → reading text ≡ accepted p → WellFormed p
-accepted-well-formed text p e = rw e at (sound-reading text)
+module _ (text : List ℕ) (p : Plan) (e : reading text ≡ accepted p) where
+  pub accepted-well-formed : WellFormed p
+  accepted-well-formed = (rw e at (sound-reading text)) .0
+
+  -- an order line has at least four bytes
+  pub accepted-orders : 4 * length (p .orders) ≤ length text
+  accepted-orders = (rw e at (sound-reading text)) .1
+
+  -- and a text that is accepted is not too long
+  pub accepted-length : length text ≤ 65536
+  unfolding reading
+  accepted-length = go (isTooLong text) refl e
+    where
+      go : (b : Bool) → isTooLong text ≡ b → cond b (refused TextTooLong 0) (readLines emptyPlan 1 (split lineFeed text)) ≡ accepted p
+          → length text ≤ 65536
+      go true f g = clash (cc)
+      go false f g = ltb-false 65536 (length text) f

@@ -1,13 +1,76 @@
--- The form of one line of a plan text: which fields make which line. Ranges and places are not looked at here.
-use Prim.Native.Nat.{ℕ}
-use mathlib.Core.Bool.{Bool, true, false, cond, _&&_, _||_}
+-- The lines of a plan: of each kind its fields, where it may stand, the ranges of its numbers, and what it adds to the plan.
+use Prim.Native.Nat.{ℕ, _^_}
+use mathlib.Core.Bool.{Bool, true, false, cond, not, _&&_, _||_}
 use mathlib.Core.List.{List, [], _∷_, map}
 use mathlib.Core.Option.{Option, none, some, Option·map}
 use lib.ListN.{length}
-use lib.Dec.{eqb}
+use lib.Dec.{eqb, leb, ltb}
+use Rattle.refusals.specs.declared.Refusal.{Refusal}
+use Rattle.refusals.specs.declared.Refusal.the-variants.{OutOfRange, Misplaced, TooMany, AddressTwice}
 use Rattle.runs.specs.Every.{every}
 use Rattle.text.specs.Text.{tab, hyphen, within, allOf, split, isDigit, numberOf}
-use Rattle.plan.specs.Plan.{Access, Task, Order, picks, rounds, seeded}
+use Rattle.plan.specs.Plan.{Access, Task, Order, picks, rounds, seeded, Plan, withWorkers, withTask, withOrder}
+
+-- ---- what is asked of a line
+
+-- what must hold, and the refusal where it does not
+pub record Ask : Type 0 where
+  pub holds : Bool
+  pub otherwise : Refusal
+
+abbrev pub ask : Bool → Refusal → Ask
+ask holds otherwise = record { holds = holds; otherwise = otherwise }
+
+-- a line that is of its form: what is asked of it, in the order in which it is judged, and the plan with it
+pub record Line : Type 0 where
+  pub asks : List Ask
+  pub plan : Plan
+
+abbrev pub line : List Ask → Plan → Line
+line asks plan = record { asks = asks; plan = plan }
+
+-- ---- the kinds of lines, where p has been read before
+
+-- the W line is still to come: it alone sets the number of workers
+abbrev pub atStart : Plan → Bool
+atStart p = eqb (p .workers) 0
+
+abbrev pub hasOrders : Plan → Bool
+hasOrders p = ltb 0 (length (p .orders))
+
+-- an address stands twice in a row of accesses
+unfoldable pub repeats : List Access → Bool
+repeats [] = false
+repeats (a ∷ xs) = not (every (λ b. not (eqb (a .address) (b .address))) xs) || repeats xs
+
+-- W: first, and once
+abbrev pub workersLine : Plan → ℕ → Line
+workersLine p n = line (ask (atStart p) Misplaced ∷ ask (within 1 32 n) OutOfRange ∷ []) (withWorkers p n)
+
+-- T: before all order lines
+abbrev pub taskLine : Plan → Task → Line
+taskLine p t =
+    line
+    (ask (not (atStart p || hasOrders p)) Misplaced
+    ∷ ask (leb (t .cost) 1000 && every (λ a. leb (a .address) 65535) (t .accesses)) OutOfRange
+    ∷ ask (ltb (length (p .tasks)) 128 && leb (length (t .accesses)) 4) TooMany
+    ∷ ask (not (repeats (t .accesses))) AddressTwice ∷ [])
+    (withTask p t)
+
+-- P, R, S: the order lines
+abbrev pub orderLine : Plan → Bool → Order → Line
+orderLine p inRange o = line (ask (not (atStart p)) Misplaced ∷ ask inRange OutOfRange ∷ []) (withOrder p o)
+
+abbrev pub picksLine : Plan → ℕ → ℕ → Line
+picksLine p worker n = orderLine p (ltb worker (p .workers) && within 1 4096 n) (picks worker n)
+
+abbrev pub roundsLine : Plan → ℕ → Line
+roundsLine p n = orderLine p (within 1 1000000 n) (rounds n)
+
+abbrev pub seededLine : Plan → ℕ → ℕ → Line
+seededLine p seed n = orderLine p (ltb seed (2 ^ 64) && within 1 1000000 n) (seeded seed n)
+
+-- ---- the form of a line: its fields
 
 -- the letters of lines and accesses
 abbrev pub 'P' : ℕ
@@ -30,12 +93,6 @@ abbrev pub 'r' : ℕ
 
 abbrev pub 'w' : ℕ
 'w' = 119
-
--- a line that is of its form
-pub data Line : Type 0 where
-  workers : ℕ → Line
-  task : Task → Line
-  order : Order → Line
 
 -- letters, digits and the hyphen
 abbrev pub isLabelByte : ℕ → Bool
@@ -72,33 +129,33 @@ twoNumbers make (f ∷ []) = none
 twoNumbers make (f ∷ g ∷ []) = withBoth make (numberOf f) (numberOf g)
 twoNumbers make (f ∷ g ∷ h ∷ hs) = none
 
-abbrev pub withCost : List ℕ → Option ℕ → Option (List Access) → Option Line
-withCost label none xs = none
-withCost label (some c) none = none
-withCost label (some c) (some xs) = some (task (record { label = label; cost = c; accesses = xs }))
+abbrev pub withCost : (Task → Line) → List ℕ → Option ℕ → Option (List Access) → Option Line
+withCost make label none xs = none
+withCost make label (some c) none = none
+withCost make label (some c) (some xs) = some (make (record { label = label; cost = c; accesses = xs }))
 
 -- a label, a cost, and any number of accesses
-abbrev pub labelAndCost : List (List ℕ) → Option Line
-labelAndCost [] = none
-labelAndCost (f ∷ []) = none
-labelAndCost (f ∷ g ∷ gs) = cond (isLabel f) (withCost f (numberOf g) (allOf (map accessOf gs))) none
+abbrev pub labelAndCost : (Task → Line) → List (List ℕ) → Option Line
+labelAndCost make [] = none
+labelAndCost make (f ∷ []) = none
+labelAndCost make (f ∷ g ∷ gs) = cond (isLabel f) (withCost make f (numberOf g) (allOf (map accessOf gs))) none
 
--- the line of a first field and the others
-unfoldable pub lineBy : ℕ → List (List ℕ) → Option Line
-lineBy letter fields =
-    cond (eqb letter 'W') (oneNumber workers fields)
-    (cond (eqb letter 'T') (labelAndCost fields)
-    (cond (eqb letter 'P') (twoNumbers (λ w n. order (picks w n)) fields)
-    (cond (eqb letter 'R') (oneNumber (λ n. order (rounds n)) fields)
-    (cond (eqb letter 'S') (twoNumbers (λ s n. order (seeded s n)) fields) none))))
+-- the line of a first field and the others: one row for each kind
+unfoldable pub lineBy : Plan → ℕ → List (List ℕ) → Option Line
+lineBy p letter fields =
+    cond (eqb letter 'W') (oneNumber (workersLine p) fields)
+    (cond (eqb letter 'T') (labelAndCost (taskLine p) fields)
+    (cond (eqb letter 'P') (twoNumbers (picksLine p) fields)
+    (cond (eqb letter 'R') (oneNumber (roundsLine p) fields)
+    (cond (eqb letter 'S') (twoNumbers (seededLine p) fields) none))))
 
 -- the first field is one letter
-unfoldable pub lineOfFields : List (List ℕ) → Option Line
-lineOfFields [] = none
-lineOfFields ([] ∷ fields) = none
-lineOfFields ((letter ∷ []) ∷ fields) = lineBy letter fields
-lineOfFields ((letter ∷ b ∷ bs) ∷ fields) = none
+unfoldable pub lineOfFields : Plan → List (List ℕ) → Option Line
+lineOfFields p [] = none
+lineOfFields p ([] ∷ fields) = none
+lineOfFields p ((letter ∷ []) ∷ fields) = lineBy p letter fields
+lineOfFields p ((letter ∷ b ∷ bs) ∷ fields) = none
 
 -- the line that a line's bytes, without the line feed, are the form of
-abbrev pub lineOf : List ℕ → Option Line
-lineOf text = lineOfFields (split tab text)
+abbrev pub lineOf : Plan → List ℕ → Option Line
+lineOf p text = lineOfFields p (split tab text)

@@ -1,6 +1,5 @@
-pub mod Tasks
-pub mod Lines
-pub mod Splits
+pub mod Touches
 pub mod Turns
-pub mod OrderLaws
-pub mod Rows
+pub mod Wholes
+pub mod Heads
+pub mod Letters

@@ -1,468 +1,532 @@
--- The turns of the reader's two loops: what a text comes to from a place on, there and at the next place. Assumes nothing.
-use mathlib.Core.Path.{_≡_, refl, sym, ap, ap₂, _∙_, subst}
-use Prim.Native.Nat.{ℕ, suc, _+_, _-_, _^_, _≤_, _<_}
+-- The turns of the reader's two loops: what a text comes to from a line on, and what is read of the line in hand.
+use Prim.Native.Nat.{ℕ, suc, _+_, _≤_, _<_}
+use mathlib.Core.Path.{_≡_, refl, sym, ap, _∙_, subst}
+use mathlib.Core.Bool.{Bool, true, false, cond}
+use mathlib.Core.List.{List, [], _∷_, _++_, map, map-append}
+use mathlib.Core.Option.{Option, none, some}
 use native.Mathlib.Omega.{arith}
 use native.Mathlib.Numerals.{add-one}
-use mathlib.Core.List.{List, [], _∷_, _++_, map, map-append, append-assoc}
-use mathlib.Core.Bool.{Bool, true, false, not}
-use mathlib.Core.Option.{Option, none, some}
-use mathlib.Core.Logic.{_⊎_, inl, inr, ⊎-elim}
-use lib.ListN.{length, take, drop, set, replicate, length-set, length-drop, length-append, drop-of-length-le}
-use lib.Seq.{take-suc-set, drop-set-lt, drop-drop}
-use lib.Dec.{eqb, leb, ltb}
-use borrow.Author.Tests.{ne-eqb, lt-ltb, le-ltb, eqb-true, eqb-false, leb-true, leb-false}
+use lib.ListN.{length, drop, length-append, length-drop, drop-of-length-le}
+use lib.Dec.{eqb}
+use borrow.Author.Tests.{lt-ltb, le-ltb, eq-eqb, ne-eqb}
 use Rattle.refusals.specs.declared.Refusal.{Refusal}
 use Rattle.refusals.specs.declared.Refusal.the-variants.{Malformed, Misplaced, TextTooLong}
-use Rattle.reader.specs.declared.Checked.the-variants.{Accepted}
-use Rattle.reader.specs.declared.Row.{Row}
-use Rattle.reader.specs.declared.ReadPlan.{ReadPlan}
-use Rattle.reader.specs.declared.Sofar.{Sofar}
-use Rattle.plan.specs.declared.field.Kind.{Kind}
-use Rattle.plan.specs.declared.field.Kind.the-variants.{Workers, Task}
-use Rattle.plan.specs.declared.field.Item.{Item}
-use Rattle.plan.specs.declared.field.Field.{Field}
-use Rattle.plan.specs.declared.field.Field.the-variants as fields
-use Rattle.reader.specs.declared.line.Hand.{Hand}
-use Rattle.reader.specs.declared.line.Fault.{Fault}
+use Rattle.text.specs.Basics.{never, byte-at}
+use Rattle.text.specs.Text.{lineFeed, onFirst, split, allOf, numberOf}
+use Rattle.text.specs.Fields.{Cut, endless, cut, fieldOf, answer, First, unended, first, firstLine, Fields, clipped}
+use Rattle.text.specs.FieldLaws.{field-length, fields-more, line-parts, line-unended}
+use Rattle.plan.specs.declared.field.Access.the-variants as accesses
+use Rattle.plan.specs.Plan.{Access, Order, Plan, emptyPlan, withWorkers, withTask, withOrder}
+use Rattle.plan.specs.Line as plans
+use Rattle.plan.specs.Line.{'T', access, accessOf, atStart, isLabel, withCost, lineBy, lineOfFields, taskLine}
+use Rattle.plan.specs.Reading.{Reading, accepted, refused, firstRefusal, readLine, readLines, reading}
+use Rattle.plan.specs.PassFields.{bit, accessBy, asAccess}
+use Rattle.kept.specs.Layout as layout
+use Rattle.kept.specs.Tasks.{Placed, rowOf, rowsOf, Labelled, KeepsTasks}
+use Rattle.kept.specs.TaskLaws.{no-tasks, task-kept}
+use Rattle.kept.specs.Orders.{codeOf, seedOf, orderNumbers, KeepsOrders}
+use Rattle.kept.specs.OrderLaws.{no-orders, order-kept}
+use Rattle.reader.specs.declared.accesses.Accesses.{Accesses}
 use Rattle.reader.specs.declared.line.Fault.the-variants.{Nothing, Is}
-use Rattle.text.specs.Text.{split}
-use Rattle.plan.specs.Plan as plans
-use Rattle.plan.specs.Plan.{Plan, Order, picks, rounds, seeded}
-use Rattle.plan.specs.Line.{Line, workers, task, order, lineOf}
-use Rattle.plan.specs.Reading.{Reading, accepted, refused, atStart, hasOrders, fault, add, readLine, readLines, emptyPlan, reading}
-use Rattle.plan.specs.PassFields.{Cut, endless, cut, fieldOf, answer, fieldIs, asField, itemOf}
-use Rattle.reader.specs.PassLines.{wanted, isTask, unread, holding, judged, accessesIn}
-use Rattle.reader.specs.PassTexts.{emptyRow, rowIn, taskIn, sizedIn, sized, labelAt, orderThen, ordersIn, ordersFrom, noLines, linesBy, plusLine, noPlan}
-use Rattle.reader.specs.Verdict.{verdict, Gives}
-use Rattle.plan.proofs.Basics.{never, clash, both-right, or-left, or-right}
-use Rattle.plan.proofs.Faults.{misplaced, inRange, tooMany, fault-some, fault-none, Clean, clean, task-shape}
-use Rattle.reader.proofs.Lines.{then, finish, lineKind, Same, asFault, Like, like-judged, judgedAfter, Alike, alike}
-use Rattle.reader.proofs.Splits.{some-part, Splits, splits, Ends, ends, part-only, second-field}
+use Rattle.reader.specs.declared.line.Kind.{Kind}
+use Rattle.reader.specs.declared.line.Kind.the-variants as kinds
+use Rattle.reader.specs.declared.line.Line.{Line}
+use Rattle.reader.specs.declared.line.Sofar.{Sofar}
+use Rattle.reader.specs.Accesses.{withAccesses, Reads}
+use Rattle.reader.specs.Lines.{Sums, faultOf, faultIn, Formless, Makes, IsWhole, Formed, Whole, malformed, formed}
+use Rattle.reader.specs.Lines.{bare, headFault, LineAt, whole, task}
+use Rattle.reader.specs.Keeping.{faultBy, judged, Keeps}
+use Rattle.reader.specs.declared.Checked.the-variants.{Accepted}
+use Rattle.reader.specs.declared.ReadPlan.{ReadPlan}
+use Rattle.reader.specs.Verdict.{verdict, noPlan, Lent, Gives}
+use Rattle.reader.proofs.Wholes.{formless-next}
+use Rattle.reader.proofs.Touches.{seen, task-fault, task-room, task-few, task-row}
 
--- ---- the fields of a line
+-- ---- a text from a line on, by that line
 
--- h is read of the line that begins at `begin`: the next field begins at `at`, or else the line has ended before it
-abbrev pub InLine : ℕ → List ℕ → ℕ → ℕ → Hand → Bool → Type 0
-InLine W s begin at h true =
-    (z : List ℕ) × (y : List ℕ) × (zs : List (List ℕ)) × (split 10 (drop begin s) ≡ z ∷ zs) × (split 10 (drop at s) ≡ y ∷ zs)
-    × (finish W unread (split 9 z) ≡ finish W h (split 9 y)) × (at + length y ≡ begin + length z)
-InLine W s begin at h false =
-    (z : List ℕ) × (split 10 (drop begin s) ≡ z ∷ split 10 (drop at s)) × (finish W unread (split 9 z) ≡ some h) × (at ≡ begin + (length z + 1))
+refusal-is : (o : Option Refusal) (r : Refusal) → faultOf o ≡ Is r → o ≡ some r
+refusal-is none r e = never (cc)
+refusal-is (some f) r e = ap some (cc)
 
-pub line-begins : (W : ℕ) (s : List ℕ) (at : ℕ) → InLine W s at at unread true
-line-begins W s at = let r = some-part 10 (drop at s) in (r .0, r .0, r .1, r .2, r .2, refl, refl)
+refusal-none : (o : Option Refusal) → faultOf o ≡ Nothing → o ≡ none
+refusal-none none e = refl
+refusal-none (some f) e = never (cc)
 
--- a field adds at most one to the fields of a line
-pub holding-fields : (W : ℕ) (h : Hand) (i : Item) → holding W h i .fields ≤ h .fields + 1
-holding-fields W h (Item.Letter k) = omega arith
-holding-fields W h (Item.Label len) = omega arith
-holding-fields W h (Item.Number v f) = omega arith
-holding-fields W h (Item.Access w a) = omega arith
+-- a text has a first part
+some-part : (separator : ℕ) (t : List ℕ) → (y : List ℕ) × (ys : List (List ℕ)) × (split separator t ≡ y ∷ ys)
+unfolding split
+some-part separator [] = ([], [], refl)
+some-part separator (b ∷ bs) = go (eqb b separator) (split separator bs)
+  where
+    go : (t : Bool) (parts : List (List ℕ)) → (y : List ℕ) × (ys : List (List ℕ)) × (cond t ([] ∷ parts) (onFirst b parts) ≡ y ∷ ys)
+    go true parts = ([], parts, refl)
+    go false [] = (b ∷ [], [], refl)
+    go false (part ∷ parts) = (b ∷ part, parts, refl)
 
-module _ (W : ℕ) (s : List ℕ) (begin at : ℕ) (h : Hand) (l : InLine W s begin at h true) where
-  abbrev next-is : Cut → Field
-  next-is = asField (itemOf (wanted (h .kind) (h .fields))) at
+module _ (p : Plan) (n : ℕ) (text : List ℕ) (begin : ℕ) where
+  -- what the text comes to from line n on
+  abbrev pub comes : Reading
+  comes = readLines p n (split lineFeed (drop begin text))
 
-  -- a field that is not of its form, or has no end
-  pub none-left : (k : Cut) → Splits k (split 10 (drop at s)) → next-is k ≡ fields.Malformed
-      → (finish W unread (split 9 (l .0)) ≡ none) ⊎ (l .2 ≡ [])
-  unfolding answer finish
-  none-left endless q e = inr (cc)
-  none-left (cut x true rest) q e = inl (l .5 ∙ ap (λ (y : List ℕ). finish W h (split 9 y)) y-is ∙ rw (q .5) (by (itemOf (wanted (h .kind) (h .fields)) x) e))
+  comes-first : (fs : List (List ℕ)) (rest : List ℕ) → firstLine (drop begin text) ≡ first fs rest
+      → comes ≡ readLine n (lineOfFields p fs) (λ q. readLines q (suc n) (split lineFeed rest))
+  unfolding readLines
+  comes-first fs rest e =
+      let (part, parts, fields) = line-parts (drop begin text) fs rest e in
+      let (y, ys, on) = some-part lineFeed rest in
+      rw (parts, on, fields)
+
+  -- a line without end, or of no form
+  pub comes-formless : begin < length text → Formless (lineOfFields p) (firstLine (drop begin text)) → comes ≡ refused Malformed n
+  unfolding readLines
+  comes-formless h f = go (firstLine (drop begin text)) refl f
     where
-      y-is : l .1 ≡ q .1
-      y-is = cc
+      go : (l : First) → firstLine (drop begin text) ≡ l → Formless (lineOfFields p) l → comes ≡ refused Malformed n
+      go unended e f = rw (line-unended (drop begin text) e, byte-at text begin 0 h)
+      go (first fs rest) e f = comes-first fs rest e ∙ rw f
 
-      by : (o : Option Item) → fieldIs o (at + (length x + 1)) true ≡ fields.Malformed
-          → then o (λ i. finish W (holding W h i) (split 9 (q .0))) ≡ none
-      by none e = refl
-      by (some i) e = never (cc)
-  none-left (cut x false rest) q e = inl (l .5 ∙ ap (λ (y : List ℕ). finish W h (split 9 y)) y-is ∙ rw (q .1) (by (itemOf (wanted (h .kind) (h .fields)) x) e))
-    where
-      y-is : l .1 ≡ x
-      y-is = cc
+  -- a line of its form
+  module _ (l : plans.Line) (fs : List (List ℕ)) (next : ℕ) (form : lineOfFields p fs ≡ some l) (so : Fields text begin fs next false) where
+    comes-formed : comes ≡ readLine n (some l) (λ q. readLines q (suc n) (split lineFeed (drop next text)))
+    comes-formed = comes-first fs (drop next text) (so .line) ∙ rw form
 
-      by : (o : Option Item) → fieldIs o (at + (length x + 1)) false ≡ fields.Malformed → then o (λ i. some (holding W h i)) ≡ none
-      by none e = refl
-      by (some i) e = never (cc)
+    comes-refused : (r : Refusal) → faultIn l ≡ Is r → comes ≡ refused r n
+    comes-refused r e = comes-formed ∙ rw (refusal-is (firstRefusal (l .asks)) r e, readLine)
 
-  -- one more field
-  module _ (i : Item) (next : ℕ) (more : Bool) (le : at ≤ length s) (ge : begin ≤ at) where
-    Went : Type 0
-    Went = InLine W s begin next (holding W h i) more × (at < next) × (next ≤ length s)
+    comes-on : faultIn l ≡ Nothing → comes ≡ readLines (l .plan) (n + 1) (split lineFeed (drop next text))
+    comes-on e = comes-formed ∙ rw (add-one n, refusal-none (firstRefusal (l .asks)) e, readLine)
 
-    went : (k : Cut) → Splits k (split 10 (drop at s)) → Ends (drop at s) k → next-is k ≡ fields.Is i next more → Went
-    unfolding answer finish Went
-    went endless q d e = never (cc)
-    went (cut x true rest) q d e = by (itemOf (wanted (h .kind) (h .fields)) x) refl e
+    -- it has a field
+    line-forth : begin < next
+    unfolding lineOfFields
+    line-forth = go fs form (so .on)
       where
-        by : (o : Option Item) → itemOf (wanted (h .kind) (h .fields)) x ≡ o → fieldIs o (at + (length x + 1)) true ≡ fields.Is i next more → Went
-        by none o-is e = never (cc)
-        by (some j) o-is e =
-            let n : at + (length x + 1) ≡ next = cc in
-            let m : true ≡ more = cc in
-            let j-is : j ≡ i = cc in
-            let y-is : l .1 ≡ q .1 = cc in
-            let zs-is : l .2 ≡ q .2 = cc in
-            let there : drop next s ≡ rest = rw (← n) (sym (drop-drop (length x + 1) at s) ∙ d .0) in (
-              rw (← m) (
-                l .0,
-                q .0,
-                l .2,
-                l .3,
-                ap (split 10) there ∙ q .3 ∙ ap (λ (ps : List (List ℕ)). q .0 ∷ ps) (sym zs-is),
-                l .5 ∙ ap (λ (y : List ℕ). finish W h (split 9 y)) y-is ∙ rw (q .5, o-is) (ap (λ (a : Item). finish W (holding W h a) (split 9 (q .0))) j-is),
-                omega (arith, l .6, ap length y-is, q .6),
-              ),
-              omega arith,
-              omega (arith, d .1, length-drop at s),
-            )
-    went (cut x false rest) q d e = by (itemOf (wanted (h .kind) (h .fields)) x) refl e
-      where
-        by : (o : Option Item) → itemOf (wanted (h .kind) (h .fields)) x ≡ o → fieldIs o (at + (length x + 1)) false ≡ fields.Is i next more → Went
-        by none o-is e = never (cc)
-        by (some j) o-is e =
-            let n : at + (length x + 1) ≡ next = cc in
-            let m : false ≡ more = cc in
-            let j-is : j ≡ i = cc in
-            let y-is : l .1 ≡ x = cc in
-            let zs-is : l .2 ≡ split 10 rest = cc in
-            let there : drop next s ≡ rest = rw (← n) (sym (drop-drop (length x + 1) at s) ∙ d .0) in (
-              rw (← m) (
-                l .0,
-                l .3 ∙ ap (λ (ps : List (List ℕ)). l .0 ∷ ps) (zs-is ∙ ap (split 10) (sym there)),
-                l .5 ∙ ap (λ (y : List ℕ). finish W h (split 9 y)) y-is ∙ rw (q .1, o-is) (ap (λ (a : Item). some (holding W h a)) j-is),
-                omega (arith, l .6, ap length y-is),
-              ),
-              omega arith,
-              omega (arith, d .1, length-drop at s),
-            )
+        go : (fs : List (List ℕ)) → lineOfFields p fs ≡ some l → begin + length fs ≤ next → begin < next
+        go [] e h = never (cc)
+        go (f ∷ fs) e h = omega arith
 
-    pub field-read : next-is (fieldOf (drop at s)) ≡ fields.Is i next more
-        → InLine W s begin next (holding W h i) more × (at < next) × (next ≤ length s)
-    unfolding Went
-    field-read e = went (fieldOf (drop at s)) (splits (drop at s)) (ends (drop at s)) e
+-- ---- the line in hand
 
--- ---- a whole line
+-- of the line that begins at a place these are read: a task's label, its cost and some accesses
+pub record TaskRead (text : List ℕ) (begin : ℕ) (p : Plan) (line : Line) (at : ℕ) (more : Bool) (a : Accesses) (row : List ℕ) : Type 0 where
+  pub label : List ℕ
+  pub digits : List ℕ
+  pub cost : ℕ
+  pub fs : List (List ℕ)
+  pub xs : List Access
+  pub labelled : isLabel label ≡ true
+  pub number : numberOf digits ≡ some cost
+  pub each : allOf (map accessOf fs) ≡ some xs
+  pub fields : Fields text begin (('T' ∷ []) ∷ label ∷ digits ∷ fs) at more
+  pub stands : Labelled text (bare (begin + 2) label cost)
+  pub reads : Reads (bare (begin + 2) label cost) (seen xs) a row
+  pub judges : line .fault ≡ headFault p cost
+  pub kind : line .kind ≡ kinds.Task
 
--- what is read before the line, and that the rest comes to what the text does
-pub record Holds (s : List ℕ) (at : ℕ) (sofar : Sofar) (rows : List Row) (p : Plan) : Type 0 where
-  pub workers : sofar .workers ≡ p .workers
-  pub few-workers : p .workers ≤ 32
-  pub ordered : sofar .ordered ≡ hasOrders p
-  pub count : sofar .tasks ≡ length (p .tasks)
-  pub few-tasks : sofar .tasks ≤ 128
-  pub tasks : map (sizedIn s) (take (sofar .tasks) rows) ≡ map sized (p .tasks)
-  pub others : drop (sofar .tasks) rows ≡ replicate (128 - sofar .tasks) emptyRow
-  pub size : length rows ≡ 128
-  pub orders : p .orders ++ ordersFrom s at ≡ ordersFrom s (sofar .orders)
-  pub place : sofar .orders ≤ length s
-  pub fresh : p .workers ≡ 0 → p .orders ≡ []
+-- the line in hand is read up to a place: whole, or a task's
+pub data InLine (text : List ℕ) (begin : ℕ) (p : Plan) (line : Line) (at : ℕ) (more : Bool) (a : Accesses) (row : List ℕ) : Type 0 where
+  other : Whole text begin p (lineOfFields p) line → at ≡ line .next → more ≡ false → InLine text begin p line at more a row
+  tasks : TaskRead text begin p line at more a row → InLine text begin p line at more a row
 
--- a line begins at `at`
-abbrev pub AtLine : List ℕ → ℕ → ℕ → Sofar → List Row → Type 0
-AtLine s at line sofar rows = (p : Plan) × Holds s at sofar rows p × (readLines p line (split 10 (drop at s)) ≡ reading s)
+-- none of its accesses is read yet
+pub line-begins : {text : List ℕ} {begin : ℕ} {p : Plan} {line : Line} {a : Accesses} {row : List ℕ} → LineAt text begin p row line
+    → ((t : Placed) → Reads t [] a (rowOf (withAccesses t []))) → InLine text begin p line (line .next) (line .more) a row
+unfolding allOf
+line-begins (whole (malformed e f)) start = other (malformed e f) refl (ap (λ (l : Line). l .more) e)
+line-begins (whole (formed f)) start = other (formed f) refl (f .ended)
+line-begins {begin = begin} (task b fields) start =
+    tasks
+    (record {
+      label = b .label;
+      digits = b .digits;
+      cost = b .cost;
+      fs = [];
+      xs = [];
+      labelled = b .labelled;
+      number = b .number;
+      each = refl;
+      fields = fields;
+      stands = b .stands;
+      reads = rw (b .kept) (start (bare (begin + 2) (b .label) (b .cost)));
+      judges = b .judged;
+      kind = b .kind;
+    })
 
-pub text-begins : (s : List ℕ) → length s ≤ 65536 → AtLine s 0 1 noLines (replicate 128 emptyRow)
-unfolding reading
-text-begins s h = (
-  emptyPlan,
-  record {
-    workers = refl;
-    few-workers = omega arith;
-    ordered = refl;
-    count = refl;
-    few-tasks = omega arith;
-    tasks = refl;
-    others = refl;
-    size = refl;
-    orders = refl;
-    place = omega arith;
-    fresh = λ e. refl;
-  },
-  simp (le-ltb 65536 (length s) h),
-)
+-- whether more is to come, as a test found it
+pub found : {text : List ℕ} {begin : ℕ} {p : Plan} {line : Line} {at : ℕ} {more m : Bool} {a : Accesses} {row : List ℕ}
+    → InLine text begin p line at more a row → more ≡ m → InLine text begin p line at m a row
+found l e = rw e at l
 
-pub too-long : (s : List ℕ) → 65536 < length s → refused TextTooLong 0 ≡ reading s
-unfolding reading
-too-long s h = simp (lt-ltb 65536 (length s) h)
+-- it is in the text
+pub line-inside : {text : List ℕ} {begin : ℕ} {p : Plan} {line : Line} {at : ℕ} {more : Bool} {a : Accesses} {row : List ℕ}
+    → InLine text begin p line at more a row → at ≤ length text
+line-inside (other (malformed e f) i m) = rw (i, e) (omega arith)
+line-inside (other (formed f) i m) = rw i (f .fields .within)
+line-inside (tasks t) = t .fields .within
 
--- a refusal, however it came about
-pub gives-refused : (s : List ℕ) (r : ReadPlan) (f : Refusal) (n : ℕ) → refused f n ≡ reading s → r ≡ noPlan f n → Gives s r (reading s)
-gives-refused s r f n e q = subst (Gives s r) e q
+-- ---- one access more
 
-pub gives-checked : (s : List ℕ) (r : ReadPlan) (x : Reading) → Gives s r x → r .checked ≡ verdict x
-gives-checked s r (accepted p) k = k .accepts
-gives-checked s r (refused f n) k = ap (λ (q : ReadPlan). q .checked) k
+all-more : {A : Type 0} (os : List (Option A)) (xs : List A) (x : A) → allOf os ≡ some xs → allOf (os ++ some x ∷ []) ≡ some (xs ++ x ∷ [])
+unfolding allOf
+all-more [] xs x e = let none-yet : xs ≡ [] = cc in rw none-yet
+all-more (none ∷ os) xs x e = never (cc)
+all-more {A} (some y ∷ os) xs x e = go (allOf os) e (λ ys. all-more os ys x)
+  where
+    go : (o : Option (List A)) → elim o [ none ↦ none | some ys ↦ some (y ∷ ys) ] ≡ some xs
+        → ((ys : List A) → o ≡ some ys → allOf (os ++ some x ∷ []) ≡ some (ys ++ x ∷ []))
+        → allOf (some y ∷ (os ++ some x ∷ [])) ≡ some (xs ++ x ∷ [])
+    go none e rest = never (cc)
+    go (some ys) e rest = let is : xs ≡ y ∷ ys = cc in rw (rest ys refl, allOf, is)
 
--- a line that is of no form
-no-line : (p : Plan) (n : ℕ) (t z : List ℕ) (zs : List (List ℕ)) → 0 < length t → split 10 t ≡ z ∷ zs → lineOf z ≡ none ⊎ (zs ≡ [])
-    → readLines p n (split 10 t) ≡ refused Malformed n
-unfolding readLines
-no-line p n [] z zs h e q = never (omega arith)
-no-line p n (b ∷ bs) z [] h e q = rw e (let r = part-only 10 b bs z e in rw (r .2))
-no-line p n (b ∷ bs) z (y ∷ ys) h e q = rw e (⊎-elim (λ g. rw g) (λ g. never (let w : _≡_ {A = ℕ} 0 1 = cc in w)) q)
+-- one is not there
+all-none : {A : Type 0} (os ps : List (Option A)) → allOf (os ++ none ∷ ps) ≡ none
+unfolding allOf
+all-none [] ps = refl
+all-none (none ∷ os) ps = refl
+all-none (some x ∷ os) ps = rw (all-none os ps)
 
--- what a verdict on a line says
-fault-nothing : (o : Option Refusal) → asFault o ≡ Nothing → o ≡ none
-fault-nothing none e = refl
-fault-nothing (some r) e = never (cc)
-
-fault-is : (o : Option Refusal) (r : Refusal) → asFault o ≡ Is r → o ≡ some r
-fault-is none r e = never (cc)
-fault-is (some f) r e = ap some (cc)
-
-pub alike-none : (p : Plan) (o : Option Line) → Alike p o none → o ≡ none
-alike-none p none a = refl
-alike-none p (some l) a = absurd a
-
-module _ (s : List ℕ) (begin at line : ℕ) (sofar : Sofar) (rows : List Row) (h : Hand) (g : AtLine s begin line sofar rows) (lt : begin < length s) where
-  small : g .0 .workers < 2 ^ 64
-  small = let w = g .1 .few-workers in omega arith
-
-  same-workers : (z : List ℕ) (o : Option Hand) → finish (sofar .workers) unread (split 9 z) ≡ o → finish (g .0 .workers) unread (split 9 z) ≡ o
-  same-workers z o e = rw (g .1 .workers) at e
-
-  -- a field that is not of its form
-  pub field-bad : InLine (sofar .workers) s begin at h true
-      → asField (itemOf (wanted (h .kind) (h .fields))) at (fieldOf (drop at s)) ≡ fields.Malformed
-      → refused Malformed line ≡ reading s
-  field-bad l e =
-      let q = none-left (sofar .workers) s begin at h l (fieldOf (drop at s)) (splits (drop at s)) e in
-      sym (no-line (g .0) line (drop begin s) (l .0) (l .2) (omega (arith, length-drop begin s)) (l .3)
-      (⊎-elim
-      (λ f. inl (alike-none (g .0) (lineOf (l .0)) (rw (same-workers (l .0) none f) at (alike (g .0) small (split 9 (l .0))))))
-      (λ f. inr f) q))
-      ∙ g .2
-
-  -- the line has ended
-  module _ (l : InLine (sofar .workers) s begin at h false) where
-    judged-as : judged (sofar .workers) (sofar .ordered) (sofar .tasks) h ≡ judgedAfter (g .0) h
-    judged-as = rw (g .1 .workers, g .1 .ordered, g .1 .count)
-
-    hand-is : Alike (g .0) (lineOf (l .0)) (some h)
-    hand-is = rw (same-workers (l .0) (some h) (l .2)) at (alike (g .0) small (split 9 (l .0)))
-
-    -- the text's reading, by the line's
-    parts : (y : List ℕ) × (ys : List (List ℕ)) × (split 10 (drop at s) ≡ y ∷ ys)
-    parts = some-part 10 (drop at s)
-
-    reading-is : readLine (g .0) line (lineOf (l .0)) (λ q. readLines q (suc line) (split 10 (drop at s))) ≡ reading s
-    unfolding readLines
-    reading-is = rw (parts .2) (rw (l .1, parts .2) at (g .2))
-
-    orders-are : ordersFrom s begin ≡ orderThen (lineOf (l .0)) (ordersFrom s at)
-    unfolding ordersIn
-    orders-are = rw (l .1, parts .2)
-
-    module _ (v : Fault) (judge : judged (sofar .workers) (sofar .ordered) (sofar .tasks) h ≡ v) where
-      no-fault : (o : Option Line) → Alike (g .0) o (some h) → v ≡ Nothing → (m : Line) × (o ≡ some m) × Like (g .0) h m × (fault (g .0) m ≡ none)
-      unfolding judged
-      no-fault none a e = never (let w : Is Malformed ≡ Nothing = simp a at (sym judged-as ∙ judge ∙ e) in let u : _≡_ {A = ℕ} 0 1 = cc in u)
-      no-fault (some m) a e = (m, refl, a, fault-nothing (fault (g .0) m) (sym (like-judged (g .0) h m a) ∙ sym judged-as ∙ judge ∙ e))
-
-      is-fault : (o : Option Line) (go : Plan → Reading) → Alike (g .0) o (some h) → (r : Refusal) → v ≡ Is r
-          → readLine (g .0) line o go ≡ refused r line
-      unfolding judged
-      is-fault none go a r e =
-          let w : Is Malformed ≡ Is r = simp a at (sym judged-as ∙ judge ∙ e) in
-          let u : Malformed ≡ r = cc in
-          ap (λ (f : Refusal). refused f line) u
-      is-fault (some m) go a r e = fault-some (g .0) line m go r (fault-is (fault (g .0) m) r (sym (like-judged (g .0) h m a) ∙ sym judged-as ∙ judge ∙ e))
-
-      pub line-bad : (r : Refusal) → v ≡ Is r → refused r line ≡ reading s
-      line-bad r e = sym (is-fault (lineOf (l .0)) (λ q. readLines q (suc line) (split 10 (drop at s))) hand-is r e) ∙ reading-is
-
-      -- the plan with the line added
-      module _ (good : v ≡ Nothing) (le : at ≤ length s) where
-        read-so : (m : Line) × (lineOf (l .0) ≡ some m) × Like (g .0) h m × (fault (g .0) m ≡ none)
-        read-so = no-fault (lineOf (l .0)) hand-is good
-
-        reads-on : readLines (add (g .0) (read-so .0)) (line + 1) (split 10 (drop at s)) ≡ reading s
-        reads-on =
-            rw (add-one line)
-            (sym (fault-none (g .0) line (read-so .0) (λ q. readLines q (suc line) (split 10 (drop at s))) (read-so .3)) ∙ (rw (read-so .1) at reading-is))
-
-        passes : Clean (g .0) (read-so .0)
-        passes = clean (g .0) (read-so .0) (read-so .3)
-
-        abbrev Next : List Row → Type 0
-        Next rows = AtLine s at (line + 1) (plusLine sofar h at) rows
-
-        -- orders so far, where there were none
-        first-orders : g .0 .orders ≡ [] → g .0 .orders ++ ordersFrom s at ≡ ordersFrom s at
-        first-orders e = rw e
-
-        no-orders : hasOrders (g .0) ≡ false → g .0 .orders ≡ []
-        no-orders e = by (g .0 .orders) e
-          where
-            by : (os : List Order) → ltb 0 (length os) ≡ false → os ≡ []
-            by [] e = refl
-            by (o ∷ os) e = clash (sym (lt-ltb 0 (suc (length os)) (omega arith)) ∙ e)
-
-        workers-next : (n : ℕ) → read-so .0 ≡ workers n → Next rows
-        unfolding misplaced inRange
-        workers-next n m-is =
-            let k : Same h (workers n) = rw m-is at (read-so .2 .same (passes .range) (passes .few)) in
-            let kind : h .kind ≡ Workers = rw m-is at (read-so .2 .kind) in
-            let start : g .0 .workers ≡ 0 = workers-first n (rw m-is at (passes .placed)) in
-            let low = workers-range n (rw m-is at (passes .range)) in (
-              add (g .0) (read-so .0),
-              rw (m-is, kind)
-                  (record {
-                    workers = k;
-                    few-workers = low;
-                    ordered = g .1 .ordered;
-                    count = g .1 .count;
-                    few-tasks = g .1 .few-tasks;
-                    tasks = g .1 .tasks;
-                    others = g .1 .others;
-                    size = g .1 .size;
-                    orders = first-orders (g .1 .fresh start);
-                    place = le;
-                    fresh = λ e. g .1 .fresh start;
-                  }),
-              reads-on,
-            )
-          where
-            workers-first : (n : ℕ) → misplaced (g .0) (workers n) ≡ false → g .0 .workers ≡ 0
-            workers-first n e = by (eqb (g .0 .workers) 0) refl e
-              where
-                by : (b : Bool) → eqb (g .0 .workers) 0 ≡ b → not b ≡ false → g .0 .workers ≡ 0
-                by true q e = eqb-true (g .0 .workers) 0 q
-                by false q e = clash e
-
-            workers-range : (n : ℕ) → inRange (g .0) (workers n) ≡ true → n ≤ 32
-            workers-range n e = leb-true n 32 (both-right (leb 1 n) (leb n 32) e)
-
-        -- the task of the line, in its row
-        row-is : (t : plans.Task) → read-so .0 ≡ task t → Same h (task t) → taskIn s (rowIn h begin) ≡ t
-        row-is t m-is k =
-            let shape = task-shape t (split 9 (l .0)) (read-so .1 ∙ ap some m-is) in
-            let there : take (length (t .label)) (drop 2 (drop begin s)) ≡ t .label =
-            second-field (drop begin s) (l .0) (shape .0 ∷ []) (t .label) (shape .1) (split 10 (drop at s)) (l .1) (shape .2) in
-            let name : labelAt s (begin + 2) (h .first) ≡ t .label = rw (k .0, ← drop-drop 2 begin s) there in
-            ap₂ (λ (x : List ℕ) (c : ℕ). made x c (accessesIn (h .touched) (h .accesses))) name (k .1) ∙ ap (made (t .label) (t .cost)) (k .2)
-          where
-            made : List ℕ → ℕ → List plans.Access → plans.Task
-            made x c xs = record { label = x; cost = c; accesses = xs }
-
-        row-sized : (t : plans.Task) → read-so .0 ≡ task t → Same h (task t) → sizedIn s (rowIn h begin) ≡ sized t
-        row-sized t m-is k = rw (row-is t m-is k, k .0, k .3)
-
-        others-next : (n : ℕ) → n < 128 → drop n rows ≡ replicate (128 - n) emptyRow → drop (n + 1) rows ≡ replicate (128 - (n + 1)) emptyRow
-        others-next n few e =
-            let q : 128 - n ≡ suc (128 - (n + 1)) = omega arith in
-            sym (drop-drop 1 n rows) ∙ ap (drop 1) e ∙ rw q
-
-        task-next : (t : plans.Task) → read-so .0 ≡ task t → Next (set rows (sofar .tasks) (rowIn h begin)) × (sofar .tasks < 128)
-        unfolding misplaced tooMany
-        task-next t m-is =
-            let k : Same h (task t) = rw m-is at (read-so .2 .same (passes .range) (passes .few)) in
-            let kind : h .kind ≡ Task = rw m-is at (read-so .2 .kind) in
-            let none-yet : g .0 .orders ≡ [] = no-orders (or-right (atStart (g .0)) (hasOrders (g .0)) (rw m-is at (passes .placed))) in
-            let few : length (g .0 .tasks) < 128 = leb-false 128 (length (g .0 .tasks)) (or-left (leb 128 (length (g .0 .tasks))) _ (rw m-is at (passes .few))) in
-            let n = sofar .tasks in
-            let lt : n < 128 = omega (arith, g .1 .count) in
-            let room : n < length rows = omega (arith, g .1 .size) in (
-              (
-                add (g .0) (read-so .0),
-                rw (m-is, kind)
-                    (record {
-                      workers = g .1 .workers;
-                      few-workers = g .1 .few-workers;
-                      ordered = g .1 .ordered;
-                      count = ap (λ (x : ℕ). x + 1) (g .1 .count) ∙ sym (length-append (g .0 .tasks) (t ∷ []));
-                      few-tasks = omega arith;
-                      tasks = rw (add-one n, take-suc-set rows n (rowIn h begin) room)
-                          (map-append (sizedIn s) (take n rows) (rowIn h begin ∷ [])
-                          ∙ ap₂ (λ (ts : List (plans.Task × ℕ × ℕ)) (u : plans.Task × ℕ × ℕ). ts ++ u ∷ []) (g .1 .tasks) (row-sized t m-is k)
-                          ∙ sym (map-append sized (g .0 .tasks) (t ∷ [])));
-                      others = drop-set-lt (n + 1) rows n (rowIn h begin) (omega arith) ∙ others-next n lt (g .1 .others);
-                      size = length-set rows n (rowIn h begin) ∙ g .1 .size;
-                      orders = first-orders none-yet;
-                      place = le;
-                      fresh = g .1 .fresh;
-                    }),
-                reads-on,
-              ),
-              lt,
-            )
-
-        -- an order line of any kind
-        order-next : (o : Order) → read-so .0 ≡ order o
-            → linesBy (h .kind) sofar h at ≡ record { workers = sofar .workers; tasks = sofar .tasks; ordered = true; orders = sofar .orders }
-            → Next rows
-        unfolding misplaced
-        order-next o m-is lines-are =
-            let begun : eqb (g .0 .workers) 0 ≡ false = rw m-is at (passes .placed) in (
-              add (g .0) (read-so .0),
-              rw (m-is, lines-are)
-                  (record {
-                    workers = g .1 .workers;
-                    few-workers = g .1 .few-workers;
-                    ordered = sym (lt-ltb 0 (length (g .0 .orders ++ o ∷ [])) (omega (arith, length-append (g .0 .orders) (o ∷ []))));
-                    count = g .1 .count;
-                    few-tasks = g .1 .few-tasks;
-                    tasks = g .1 .tasks;
-                    others = g .1 .others;
-                    size = g .1 .size;
-                    orders = append-assoc (g .0 .orders) (o ∷ []) (ordersFrom s at)
-                        ∙ ap (λ (os : List Order). g .0 .orders ++ os) (sym (orders-are ∙ rw (read-so .1, m-is))) ∙ g .1 .orders;
-                    place = g .1 .place;
-                    fresh = λ e. absurd (eqb-false (g .0 .workers) 0 begun e);
-                  }),
-              reads-on,
-            )
-
-        -- what the code goes by: whether it is a task's line
-        pub line-task : isTask (h .kind) ≡ true → Next (set rows (sofar .tasks) (rowIn h begin)) × (sofar .tasks < 128)
-        line-task k = by (read-so .0) refl (ap isTask (read-so .2 .kind))
-          where
-            by : (m : Line) → read-so .0 ≡ m → isTask (h .kind) ≡ isTask (lineKind m)
-                → Next (set rows (sofar .tasks) (rowIn h begin)) × (sofar .tasks < 128)
-            by (workers n) e a = clash (sym k ∙ a)
-            by (task t) e a = task-next t e
-            by (order (picks w n)) e a = clash (sym k ∙ a)
-            by (order (rounds n)) e a = clash (sym k ∙ a)
-            by (order (seeded x n)) e a = clash (sym k ∙ a)
-
-        pub line-other : isTask (h .kind) ≡ false → Next rows
-        line-other k = by (read-so .0) refl (read-so .2 .kind)
-          where
-            by : (m : Line) → read-so .0 ≡ m → h .kind ≡ lineKind m → Next rows
-            by (workers n) e a = workers-next n e
-            by (task t) e a = clash (sym (ap isTask a) ∙ k)
-            by (order (picks w n)) e a = order-next (picks w n) e (ap (λ (x : Kind). linesBy x sofar h at) a)
-            by (order (rounds n)) e a = order-next (rounds n) e (ap (λ (x : Kind). linesBy x sofar h at) a)
-            by (order (seeded x n)) e a = order-next (seeded x n) e (ap (λ (x : Kind). linesBy x sofar h at) a)
-
--- ---- the end of the text
-
-module _ (s : List ℕ) (at line : ℕ) (sofar : Sofar) (rows : List Row) (g : AtLine s at line sofar rows) (end : length s ≤ at) where
-  pub no-workers : sofar .workers ≡ 0 → refused Misplaced line ≡ reading s
-  unfolding split readLines
-  no-workers e = simp (drop-of-length-le s end, sym (g .1 .workers) ∙ e) at (g .2)
-
-  pub whole-text : (r : ReadPlan) → (sofar .workers ≡ 0 → ⊥)
-      → r ≡ record { checked = Accepted; workers = sofar .workers; tasks = sofar .tasks; orders = sofar .orders; rows = rows }
-      → Gives s r (reading s)
-  unfolding split readLines ordersIn
-  whole-text r some-workers e =
-      let there : eqb (g .0 .workers) 0 ≡ false = ne-eqb (g .0 .workers) 0 (λ q. some-workers (g .1 .workers ∙ q)) in
-      let all : accepted (g .0) ≡ reading s = simp (drop-of-length-le s end, there) at (g .2) in
-      let left : g .0 .orders ++ [] ≡ ordersFrom s (sofar .orders) = simp (drop-of-length-le s end) at (g .1 .orders) in
-      subst (Gives s r) all (rw e
-      (record {
-        accepts = refl;
-        workers = g .1 .workers;
-        count = g .1 .count;
-        tasks = g .1 .tasks;
-        others = g .1 .others;
-        orders = sym left ∙ append-none (g .0 .orders);
-        place = g .1 .place;
-      }))
+module _ (text : List ℕ) (at : ℕ) where
+  -- the place after an access
+  pub access-next : at ≤ length text → {writes address next : ℕ} {more : Bool}
+      → accesses.Is writes address next more ≡ asAccess at (fieldOf (drop at text)) → (at < next) × (next ≤ length text)
+  unfolding answer
+  access-next h {writes} {address} {next} {more} e = go (fieldOf (drop at text)) refl e
     where
-      append-none : (os : List Order) → os ++ [] ≡ os
-      append-none [] = refl
-      append-none (o ∷ os) = ap (λ (l : List Order). o ∷ l) (append-none os)
+      by : (x : List ℕ) (o : Option Access) (m : Bool) → accesses.Is writes address next more ≡ accessBy o (at + (length x + 1)) m
+          → next ≡ at + (length x + 1)
+      by x none m e = never (cc)
+      by x (some a) m e = cc
+
+      go : (k : Cut) → fieldOf (drop at text) ≡ k → accesses.Is writes address next more ≡ asAccess at k
+          → (at < next) × (next ≤ length text)
+      go endless q e = never (cc)
+      go (cut x m rest) q e =
+          let n = by x (accessOf x) m e in
+          (omega arith, omega (arith, field-length (drop at text) x m rest q, length-drop at text))
+
+-- a task's line, by its accesses
+task-form : (p : Plan) (label digits : List ℕ) (cost : ℕ) → isLabel label ≡ true → numberOf digits ≡ some cost → (gs : List (List ℕ))
+    → lineOfFields p (('T' ∷ []) ∷ label ∷ digits ∷ gs) ≡ withCost (taskLine p) label (some cost) (allOf (map accessOf gs))
+unfolding lineOfFields lineBy
+task-form p label digits cost l n gs = rw (l, n)
+
+module _ {text : List ℕ} {begin : ℕ} {p : Plan} {line : Line} {at : ℕ} {a : Accesses} {row : List ℕ} where
+  -- where more is to come, the line is a task's
+  is-task : InLine text begin p line at true a row → TaskRead text begin p line at true a row
+  is-task (other w e more) = never (cc)
+  is-task (tasks t) = t
+
+  module _ (so : InLine text begin p line at true a row) where
+    abbrev t : TaskRead text begin p line at true a row
+    t = is-task so
+
+    -- the line with one field more, which is an access
+    more-fields : (x : List ℕ) (more : Bool) (rest : List ℕ) → fieldOf (drop at text) ≡ cut x more rest
+        → Fields text begin (('T' ∷ []) ∷ t .label ∷ t .digits ∷ (t .fs ++ x ∷ [])) (at + (length x + 1)) more
+    more-fields = fields-more (t .fields)
+
+    pub access-read : {writes address next : ℕ} {more : Bool} {b : Accesses} {after : List ℕ}
+        → accesses.Is writes address next more ≡ asAccess at (fieldOf (drop at text))
+        → ((u : Placed) (ys : List Access) (w : Bool) → writes ≡ bit w → Reads u ys a row → Reads u (ys ++ access w address ∷ []) b after)
+        → InLine text begin p line next more b after
+    unfolding answer
+    access-read {writes} {address} {next} {more} {b} {after} e with-access = go (fieldOf (drop at text)) refl e
+      where
+        by : (x : List ℕ) (o : Option Access) (m : Bool) (rest : List ℕ) → fieldOf (drop at text) ≡ cut x m rest → accessOf x ≡ o
+            → accesses.Is writes address next more ≡ accessBy o (at + (length x + 1)) m → InLine text begin p line next more b after
+        by x none m rest q o e = never (cc)
+        by x (some y) m rest q o e =
+            let n : next ≡ at + (length x + 1) = cc in
+            let same : more ≡ m = cc in
+            let bits : writes ≡ bit (y .writes) = cc in
+            let clip : address ≡ clipped (y .address) = cc in
+            tasks
+            (record {
+              label = t .label;
+              digits = t .digits;
+              cost = t .cost;
+              fs = t .fs ++ x ∷ [];
+              xs = t .xs ++ y ∷ [];
+              labelled = t .labelled;
+              number = t .number;
+              each = rw (map-append accessOf (t .fs) (x ∷ []), o) (all-more (map accessOf (t .fs)) (t .xs) y (t .each));
+              fields = rw (n, same) (more-fields x m rest q);
+              stands = t .stands;
+              reads =
+                  rw (map-append (λ (a : Access). access (a .writes) (clipped (a .address))) (t .xs) (y ∷ []), ← clip)
+                  (with-access (bare (begin + 2) (t .label) (t .cost)) (seen (t .xs)) (y .writes) bits (t .reads));
+              judges = t .judges;
+              kind = t .kind;
+            })
+
+        go : (k : Cut) → fieldOf (drop at text) ≡ k → accesses.Is writes address next more ≡ asAccess at k
+            → InLine text begin p line next more b after
+        go endless q e = never (cc)
+        go (cut x m rest) q e = by x (accessOf x) m rest q refl e
+
+    -- a field that is no access
+    pub access-wrong : accesses.Malformed ≡ asAccess at (fieldOf (drop at text)) → Formless (lineOfFields p) (firstLine (drop begin text))
+    unfolding answer
+    access-wrong e =
+        formless-next (lineOfFields p) text begin (t .fields)
+        (λ x more rest q gs. task-form p (t .label) (t .digits) (t .cost) (t .labelled) (t .number) (t .fs ++ x ∷ gs)
+        ∙ rw (map-append accessOf (t .fs) (x ∷ gs), no-access x (accessOf x) more (rw q at e))
+        (rw (all-none (map accessOf (t .fs)) (map accessOf gs))))
+      where
+        no-access : (x : List ℕ) (o : Option Access) (m : Bool) → accesses.Malformed ≡ accessBy o (at + (length x + 1)) m → o ≡ none
+        no-access x none m e = refl
+        no-access x (some y) m e = never (cc)
+
+-- ---- a line that has ended
+
+-- what is kept of a line without fault makes q of p
+data Adds (text : List ℕ) (line : Line) (row : List ℕ) (p q : Plan) : Type 0 where
+  adds-workers : line .kind ≡ kinds.Workers → line .first ≤ 32 → q ≡ withWorkers p (line .first) → Adds text line row p q
+  adds-task : line .kind ≡ kinds.Task → (t : Placed) → Labelled text t → length (t .task .accesses) ≤ layout.mostTaskAccesses
+      → row ≡ rowOf t → length (p .tasks) < layout.mostTasks → q ≡ withTask p (t .task) → Adds text line row p q
+  adds-order : line .kind ≡ kinds.Order → (o : Order) → codeOf o ≡ line .first → seedOf o ≡ line .second → q ≡ withOrder p o
+      → Adds text line row p q
+
+-- a line that is of its form
+record Right (text : List ℕ) (begin : ℕ) (p : Plan) (line : Line) (at : ℕ) (a : Accesses) (row : List ℕ) : Type 0 where
+  pub l : plans.Line
+  pub fs : List (List ℕ)
+  pub form : lineOfFields p fs ≡ some l
+  pub fields : Fields text begin fs at false
+  pub judges : judged line a (length (p .tasks)) ≡ faultIn l
+  pub adds : firstRefusal (l .asks) ≡ none → Adds text line row p (l .plan)
+
+data Ended (text : List ℕ) (begin : ℕ) (p : Plan) (line : Line) (at : ℕ) (a : Accesses) (row : List ℕ) : Type 0 where
+  wrong : judged line a (length (p .tasks)) ≡ Is Malformed → Formless (lineOfFields p) (firstLine (drop begin text))
+      → Ended text begin p line at a row
+  right : Right text begin p line at a row → Ended text begin p line at a row
+
+module _ {text : List ℕ} {begin : ℕ} {p : Plan} {line : Line} {at : ℕ} {a : Accesses} {row : List ℕ} where
+  formed-ended : Formed text begin p (lineOfFields p) line → at ≡ line .next → Right text begin p line at a row
+  formed-ended f e =
+      record {
+        l = f .l;
+        fs = f .fs;
+        form = f .formed;
+        fields = rw e (f .fields);
+        judges = fault-same (line .kind) (f .whole) ∙ f .judged;
+        adds = λ good. adds-as (line .kind) refl (f .makes good);
+      }
+    where
+      fault-same : (k : Kind) → IsWhole k → faultBy k (line .fault) a (length (p .tasks)) ≡ line .fault
+      fault-same kinds.Workers w = refl
+      fault-same kinds.Task w = absurd w
+      fault-same kinds.Order w = refl
+
+      adds-as : (k : Kind) → line .kind ≡ k → Makes k (line .first) (line .second) p (f .l .plan) → Adds text line row p (f .l .plan)
+      adds-as kinds.Workers e (q, low) = adds-workers e low q
+      adds-as kinds.Task e m = absurd m
+      adds-as kinds.Order e (o, q, code, seed) = adds-order e o code seed q
+
+  task-ended : TaskRead text begin p line at false a row → Right text begin p line at a row
+  task-ended t =
+      record {
+        l = taskLine p (record { label = t .label; cost = t .cost; accesses = t .xs });
+        fs = ('T' ∷ []) ∷ t .label ∷ t .digits ∷ t .fs;
+        form = task-form p (t .label) (t .digits) (t .cost) (t .labelled) (t .number) (t .fs) ∙ rw (t .each);
+        fields = t .fields;
+        judges = rw (t .kind, t .judges) (task-fault p (t .label) (t .cost) (t .xs) (t .reads));
+        adds =
+            λ good. adds-task (t .kind)
+            (record { at = begin + 2; task = record { label = t .label; cost = t .cost; accesses = t .xs } }) (t .stands)
+            (task-few p (t .label) (t .cost) (t .xs) (t .reads) good)
+            (task-row p (t .label) (t .cost) (t .xs) (begin + 2) (t .reads) good)
+            (task-room p (t .label) (t .cost) (t .xs) (t .reads) good) refl;
+      }
+
+  ended : InLine text begin p line at false a row → Ended text begin p line at a row
+  ended (other (malformed e f) i m) = wrong (rw e) f
+  ended (other (formed f) i m) = right (formed-ended f i)
+  ended (tasks t) = right (task-ended t)
+
+  module _ (n : ℕ) (so : InLine text begin p line at false a row) where
+    -- a line with a fault
+    pub line-refused : begin < length text → (r : Refusal) → judged line a (length (p .tasks)) ≡ Is r → comes p n text begin ≡ refused r n
+    line-refused h r e = go (ended so)
+      where
+        go : Ended text begin p line at a row → comes p n text begin ≡ refused r n
+        go (wrong w f) = let is : Malformed ≡ r = cc in rw is at (comes-formless p n text begin h f)
+        go (right x) = comes-refused p n text begin (x .l) (x .fs) at (x .form) (x .fields) r (sym (x .judges) ∙ e)
+
+    -- a line without fault: the plan with it
+    line-passes : judged line a (length (p .tasks)) ≡ Nothing
+        → (q : Plan) × (begin < at) × (at ≤ length text) × (comes p n text begin ≡ comes q (n + 1) text at) × Adds text line row p q
+    line-passes e = go (ended so)
+      where
+        go : Ended text begin p line at a row
+            → (q : Plan) × (begin < at) × (at ≤ length text) × (comes p n text begin ≡ comes q (n + 1) text at) × Adds text line row p q
+        go (wrong w f) = never (cc)
+        go (right x) = (
+          x .l .plan,
+          line-forth p n text begin (x .l) (x .fs) at (x .form) (x .fields),
+          x .fields .within,
+          comes-on p n text begin (x .l) (x .fs) at (x .form) (x .fields) (sym (x .judges) ∙ e),
+          x .adds (refusal-none (firstRefusal (x .l .asks)) (sym (x .judges) ∙ e)),
+        )
+
+-- ---- the lines so far
+
+-- a line begins at a place: the lines of p are before it, and are kept in what was lent
+pub record AtLine (text : List ℕ) (before : Lent) (s : Sofar) (n at : ℕ) (after : Lent) : Type 0 where
+  pub p : Plan
+  pub sums : Sums s p
+  pub low : p .workers ≤ 32
+  pub few : length (p .tasks) ≤ layout.mostTasks
+  pub each : length (p .orders) ≤ at
+  pub number : n ≤ at + 1
+  pub inside : at ≤ length text
+  pub rows : KeepsTasks text (before .rows) (p .tasks) (after .rows)
+  pub lines : KeepsOrders (before .lines) (p .orders) (after .lines)
+  pub so : comes p n text at ≡ readLines emptyPlan 1 (split lineFeed text)
+
+pub text-begins : (text : List ℕ) (l : Lent) (s : Sofar) → Sums s emptyPlan → AtLine text l s 1 0 l
+text-begins text l s h =
+    record {
+      p = emptyPlan;
+      sums = h;
+      low = omega arith;
+      few = omega arith;
+      each = omega arith;
+      number = omega arith;
+      inside = omega arith;
+      rows = no-tasks text (l .rows);
+      lines = no-orders (l .lines);
+      so = refl;
+    }
+
+module _ {text : List ℕ} {before : Lent} {s : Sofar} {n begin : ℕ} {mid : Lent} (g : AtLine text before s n begin mid) where
+  -- the line that begins here is in hand, where what is read of it goes on from its first fields
+  pub in-hand : {line : Line} {start : Accesses} {first-row : List ℕ} {at : ℕ} {more : Bool} {a : Accesses} {row : List ℕ}
+      → ((p : Plan) → Sums s p → LineAt text begin p first-row line) → ((t : Placed) → Reads t [] start (rowOf (withAccesses t [])))
+      → ((b : ℕ) (p : Plan) → InLine text b p line (line .next) (line .more) start first-row → InLine text b p line at more a row)
+      → InLine text begin (g .p) line at more a row
+  in-hand read none-yet on = on begin (g .p) (line-begins (read (g .p) (g .sums)) none-yet)
+
+  -- q is kept, with one line more
+  record Grown (q : Plan) (r : Sofar) (after : Lent) : Type 0 where
+    pub sums : Sums r q
+    pub low : q .workers ≤ 32
+    pub few : length (q .tasks) ≤ layout.mostTasks
+    pub each : length (q .orders) ≤ length (g .p .orders) + 1
+    pub rows : KeepsTasks text (before .rows) (q .tasks) (after .rows)
+    pub lines : KeepsOrders (before .lines) (q .orders) (after .lines)
+
+  module _ {line : Line} {row : List ℕ} {after : Lent} {r : Sofar} (k : Keeps s line row mid after r) where
+    grown : {q : Plan} → Adds text line row (g .p) q → Grown q r after
+    grown (adds-workers kind low is) =
+        rw (is, rw kind at (k .counts))
+        (record {
+          sums = record { workers = refl; tasks = g .sums .tasks; orders = g .sums .orders };
+          low = low;
+          few = g .few;
+          each = omega arith;
+          rows = rw (rw kind at (k .rows)) (g .rows);
+          lines = rw (rw kind at (k .lines)) (g .lines);
+        })
+    grown (adds-task kind t label few row-is room is) =
+        rw (is, rw kind at (k .counts))
+        (record {
+          sums =
+              record {
+                workers = g .sums .workers;
+                tasks = omega (arith, g .sums .tasks, length-append (g .p .tasks) (t .task ∷ []));
+                orders = g .sums .orders;
+              };
+          low = g .low;
+          few = omega (arith, length-append (g .p .tasks) (t .task ∷ []));
+          each = omega arith;
+          rows = task-kept (g .rows) t label few (rw (kind, row-is, g .sums .tasks) at (k .rows));
+          lines = rw (rw kind at (k .lines)) (g .lines);
+        })
+    grown (adds-order kind o code seed is) =
+        rw (is, rw kind at (k .counts))
+        (record {
+          sums =
+              record {
+                workers = g .sums .workers;
+                tasks = g .sums .tasks;
+                orders = omega (arith, g .sums .orders, length-append (g .p .orders) (o ∷ []));
+              };
+          low = g .low;
+          few = g .few;
+          each = omega (arith, length-append (g .p .orders) (o ∷ []));
+          rows = rw (rw kind at (k .rows)) (g .rows);
+          lines = order-kept (g .lines) o (rw (kind, ← code, ← seed, g .sums .orders) at (k .lines));
+        })
+
+    pub line-kept : {at : ℕ} {a : Accesses} → InLine text begin (g .p) line at false a row → judged line a (s .tasks) ≡ Nothing
+        → (begin < at) × AtLine text before r (n + 1) at after
+    line-kept l e =
+        let (q, forth, inside, on, adds) = line-passes n l (rw (g .sums .tasks) at e) in
+        let h = grown adds in (
+          forth,
+          record {
+            p = q;
+            sums = h .sums;
+            low = h .low;
+            few = h .few;
+            each = omega (arith, h .each, g .each);
+            number = omega (arith, g .number);
+            inside = inside;
+            rows = h .rows;
+            lines = h .lines;
+            so = sym on ∙ g .so;
+          },
+        )
+
+-- ---- the end of the text, or a refusal
+
+not-too-long : (text : List ℕ) → length text ≤ 65536 → readLines emptyPlan 1 (split lineFeed text) ≡ reading text
+unfolding reading
+not-too-long text h = simp (le-ltb 65536 (length text) h)
+
+module _ {text : List ℕ} {before : Lent} {s : Sofar} {n at : ℕ} {after : Lent} (g : AtLine text before s n at after)
+    (short : length text ≤ 65536) where
+  reads-as : comes (g .p) n text at ≡ reading text
+  reads-as = g .so ∙ not-too-long text short
+
+  pub gives-refused : (f : Refusal) → comes (g .p) n text at ≡ refused f n → {r : ReadPlan} → r ≡ noPlan f n
+      → Gives text before after r (reading text)
+  gives-refused f e {r} q =
+      subst (Gives text before after r) (sym e ∙ reads-as)
+      (q, (rowsOf (g .rows .placed), g .rows .stores), (orderNumbers (g .p .orders), g .lines .stores))
+
+  -- all lines are read
+  module _ (end : length text ≤ at) where
+    comes-end : comes (g .p) n text at ≡ cond (atStart (g .p)) (refused Misplaced n) (accepted (g .p))
+    unfolding readLines split
+    comes-end = rw (drop-of-length-le text end)
+
+    pub gives-misplaced : s .workers ≡ 0 → {r : ReadPlan} → r ≡ noPlan Misplaced n → Gives text before after r (reading text)
+    gives-misplaced z = gives-refused Misplaced (comes-end ∙ rw (eq-eqb (g .p .workers) 0 (omega (arith, g .sums .workers))))
+
+    pub gives-accepted : (s .workers ≡ 0 → ⊥)
+        → Gives text before after (record { checked = Accepted; workers = s .workers; tasks = s .tasks; orders = s .orders }) (reading text)
+    gives-accepted z =
+        let some-workers : comes (g .p) n text at ≡ accepted (g .p) =
+        comes-end ∙ rw (ne-eqb (g .p .workers) 0 (λ e. z (g .sums .workers ∙ e))) in
+        subst (Gives text before after _) (sym some-workers ∙ reads-as)
+        (record {
+          accepts = refl;
+          workers = g .sums .workers;
+          tasks = g .sums .tasks;
+          orders = g .sums .orders;
+          rows = g .rows;
+          lines = g .lines;
+        })
+
+-- a text that is too long
+pub gives-too-long : (text : List ℕ) (l : Lent) {r : ReadPlan} → 65536 < length text → r ≡ noPlan TextTooLong 0
+    → Gives text l l r (reading text)
+unfolding reading
+gives-too-long text l h e = simp (lt-ltb 65536 (length text) h) (e, ([], refl), ([], refl))
+
+pub gives-checked : (text : List ℕ) (before after : Lent) (r : ReadPlan) (x : Reading) → Gives text before after r x
+    → r .checked ≡ verdict x
+gives-checked text before after r (accepted p) g = g .accepts
+gives-checked text before after r (refused f n) g = ap (λ (q : ReadPlan). q .checked) (g .0)

@@ -1,4 +1,4 @@
-pub mod PassLines
-pub mod PassTexts
-pub mod PassOrders
+pub mod Lines
+pub mod Accesses
 pub mod Verdict
+pub mod Keeping

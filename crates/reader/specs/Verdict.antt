@@ -1,31 +1,49 @@
 -- What the public functions answer, by what a text comes to.
-use Prim.Native.Nat.{ℕ, _-_, _≤_}
+use Prim.Native.Nat.{ℕ}
 use mathlib.Core.Path.{_≡_}
-use mathlib.Core.List.{List, map}
-use lib.ListN.{length, take, drop, replicate}
+use mathlib.Core.List.{List}
+use lib.ListN.{length}
+use lib.Seq.{sets}
+use Rattle.refusals.specs.declared.Refusal.{Refusal}
+use Rattle.plan.specs.Plan.{Plan}
+use Rattle.plan.specs.Reading.{Reading, accepted, refused}
+use Rattle.kept.specs.Tasks.{KeepsTasks}
+use Rattle.kept.specs.Orders.{KeepsOrders}
 use Rattle.reader.specs.declared.Checked.{Checked}
 use Rattle.reader.specs.declared.Checked.the-variants.{Accepted, Refused}
 use Rattle.reader.specs.declared.ReadPlan.{ReadPlan}
-use Rattle.plan.specs.Plan.{Plan}
-use Rattle.plan.specs.Reading.{Reading, accepted, refused}
-use Rattle.reader.specs.PassTexts.{emptyRow, sizedIn, sized, ordersFrom, noPlan}
 
 -- the answer of the checking function
 abbrev pub verdict : Reading → Checked
 verdict (accepted p) = Accepted
 verdict (refused r line) = Refused r line
 
--- a plan as it was read from a text. Its label's place is any at which the text has the label's bytes.
-pub record Says (text : List ℕ) (r : ReadPlan) (p : Plan) : Type 0 where
+abbrev pub noPlan : Refusal → ℕ → ReadPlan
+noPlan refusal line = record { checked = Refused refusal line; workers = 0; tasks = 0; orders = 0 }
+
+-- what is lent for the rows of tasks and of order lines, before and after
+pub record Lent : Type 0 where
+  pub rows : List ℕ
+  pub lines : List ℕ
+
+abbrev pub lent : List ℕ → List ℕ → Lent
+lent rows lines = record { rows = rows; lines = lines }
+
+-- a plan as it was read from a text, and what is kept of it
+pub record Says (text : List ℕ) (before after : Lent) (r : ReadPlan) (p : Plan) : Type 0 where
   pub accepts : r .checked ≡ Accepted
   pub workers : r .workers ≡ p .workers
-  pub count : r .tasks ≡ length (p .tasks)
-  pub tasks : map (sizedIn text) (take (r .tasks) (r .rows)) ≡ map sized (p .tasks)
-  pub others : drop (r .tasks) (r .rows) ≡ replicate (128 - r .tasks) emptyRow
-  pub orders : ordersFrom text (r .orders) ≡ p .orders
-  pub place : r .orders ≤ length text
+  pub tasks : r .tasks ≡ length (p .tasks)
+  pub orders : r .orders ≡ length (p .orders)
+  pub rows : KeepsTasks text (before .rows) (p .tasks) (after .rows)
+  pub lines : KeepsOrders (before .lines) (p .orders) (after .lines)
 
--- the answer of the reading function
-abbrev pub Gives : List ℕ → ReadPlan → Reading → Type 0
-Gives text r (accepted p) = Says text r p
-Gives text r (refused f line) = r ≡ noPlan f line
+-- some numbers were stored at the front; which ones is left to the program
+abbrev pub Front : List ℕ → List ℕ → Type 0
+Front before after = (ns : List ℕ) × (after ≡ sets before 0 ns)
+
+-- the answer of the reading function, and what it leaves in the rows
+abbrev pub Gives : List ℕ → Lent → Lent → ReadPlan → Reading → Type 0
+Gives text before after r (accepted p) = Says text before after r p
+Gives text before after r (refused f line) =
+    (r ≡ noPlan f line) × Front (before .rows) (after .rows) × Front (before .lines) (after .lines)

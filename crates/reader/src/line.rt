@@ -1,89 +1,65 @@
-// The line in hand: what is read of it, and what it is refused with once it has ended.
+// One line: a function for each kind reads its fields and judges them, in the order of the refusals.
 ghost use mathlib.Core.Path.{_≡_};
-ghost use mathlib.Core.Bool.{not, _||_};
-ghost use Prim.Native.Nat.{_+_, _^_, _≤_, _<_};
+ghost use mathlib.Core.Bool.{false, not, _||_};
+ghost use Prim.Native.Nat.{_+_, _*_, _≤_, _<_};
+ghost use lib.Dec.{eqb};
 ghost use lib.ListN.{length};
 ghost use Rattle.text.specs.Text.{within};
-ghost use Rattle.reader.specs.PassLines.{bit, fresh, numberIf, wanted, isWhole, isTask, isOut, withNumber, withAccess, holding, stands, isMisplaced, limitsOf, firstFault, judged};
-use plan::field::Item;
-use plan::field::Kind;
-use plan::field::Want;
+ghost use Rattle.plan.specs.Plan.{Plan};
+ghost use Rattle.plan.specs.Line.{oneNumber, twoNumbers, workersLine, roundsLine, picksLine, seededLine};
+ghost use Rattle.kept.specs.Layout as lay;
+ghost use Rattle.reader.specs.Lines.{Sums, wrongLine, firstFault, Whole, Ordered, bareRow, TaskHead, LineAt};
+use kept::layout;
+use plan::field::Label;
+use plan::field::read_label;
 use refusals::Refusal;
+use text::read::Number;
+use text::read::TAB;
+use text::read::look;
+use text::read::read_number;
 
-// One access to an address: `writes` is 1 for a writer, else 0 (a number, since a bool would leave a gap that every copy pays for).
-pub struct Touch {
-    pub writes: u64,
-    pub address: u64,
-}
-
-// What is read of a line: its kind, how many of its fields (the accesses apart), its numbers (of a task the label's length and the cost),
-// whether one of them was out of its range, and its accesses: how many, counted up to five, the first four, and whether an address came again.
-pub struct Hand {
-    pub kind: Kind,
-    pub fields: u64,
-    pub first: u64,
-    pub second: u64,
-    pub out: bool,
-    pub touched: usize,
-    pub again: bool,
-    pub accesses: [Touch; 4],
-}
-
-// The verdict on a line that has ended.
+// What a line is refused with.
 pub enum Fault {
     Nothing,
     Is(Refusal),
 }
 
-// A line of which so many fields are read, none after the letter.
-pub fn fresh_line(kind: Kind, fields: u64) -> Hand
-    ensures { λ r. ⌜ r ≡ fresh kind fields ⌝ }
+// What a line says besides its fault.
+pub enum Kind {
+    Workers,
+    Task,
+    Order,
+}
+
+// What the lines so far come to: the workers (0 before the W line), how many tasks, how many order lines.
+pub struct Sofar {
+    pub workers: u64,
+    pub tasks: usize,
+    pub orders: usize,
+}
+
+// A line as it was read: its fault, and the place after it. The numbers are the workers, or what is kept of an order line. Of a task's line
+// the accesses are still to be read: `more` says whether there is one, and the fault is that of its place and its cost.
+pub struct Line {
+    pub kind: Kind,
+    pub first: u64,
+    pub second: u64,
+    pub fault: Fault,
+    pub next: usize,
+    pub more: bool,
+}
+
+// A line that is not of its form.
+fn wrong() -> Line
+    ensures { λ r. ⌜ r ≡ wrongLine ⌝ }
 {
-    let nowhere = Touch {
-        writes: 0,
-        address: 0,
-    };
-    Hand {
-        kind,
-        fields,
+    Line {
+        kind: Kind::Order,
         first: 0,
         second: 0,
-        out: false,
-        touched: 0,
-        again: false,
-        accesses: [nowhere; 4],
-    }
-}
-
-fn number_if(wanted: bool) -> Want
-    ensures { λ r. ⌜ r ≡ numberIf wanted ⌝ }
-{
-    if wanted {
-        return Want::Number;
-    }
-    Want::Nothing
-}
-
-// What the next field of a line must be.
-pub fn wanted_next(kind: Kind, fields: u64) -> Want
-    ensures { λ r. ⌜ r ≡ wanted kind fields ⌝ }
-{
-    match kind {
-        Kind::Unread => Want::Letter,
-        Kind::Workers => number_if(fields == 1),
-        Kind::Task => {
-            if fields == 1 {
-                return Want::Label;
-            }
-            if fields == 2 {
-                Want::Number
-            } else {
-                Want::Access
-            }
-        }
-        Kind::Picks => number_if(fields < 3),
-        Kind::Rounds => number_if(fields == 1),
-        Kind::Seeded => number_if(fields < 3),
+        fault: Fault::Is(Refusal::Malformed),
+        next: 0,
+        more: false,
     }
 }
 
@@ -96,28 +72,6 @@ fn outside(low: u64, high: u64, n: u64) -> bool
     high < n
 }
 
-// Whether a number is out of its range, as the field after so many of a line of this kind.
-pub fn is_out(workers: u64, kind: Kind, fields: u64, value: u64, fits: bool) -> bool
-    ensures { λ r. ⌜ r ≡ isOut workers kind fields value fits ⌝ }
-{
-    match kind {
-        Kind::Unread => true,
-        Kind::Workers => outside(1, 32, value),
-        Kind::Task => 1000 < value,
-        Kind::Picks => if fields == 1 {
-            workers <= value
-        } else {
-            outside(1, 4096, value)
-        },
-        Kind::Rounds => outside(1, 1000000, value),
-        Kind::Seeded => if fields == 1 {
-            !fits
-        } else {
-            outside(1, 1000000, value)
-        },
-    }
-}
-
 pub fn either(a: bool, b: bool) -> bool
     ensures { λ r. ⌜ r ≡ (a || b) ⌝ }
 {
@@ -127,149 +81,9 @@ pub fn either(a: bool, b: bool) -> bool
     b
 }
 
-// The line with one number more, or with its label's length.
-fn with_number(hand: Hand, value: u64, out: bool) -> Hand
-    requires { ⌜ hand .fields + 1 < 2 ^ 64 ⌝ }
-    ensures { λ r. ⌜ r ≡ withNumber hand value out ⌝ }
-{
-    let n = hand.fields;
-    let mut h = hand;
-    h.fields = n + 1;
-    h.out = either(hand.out, out);
-    if n == 1 {
-        h.first = value;
-        return h;
-    }
-    h.second = value;
-    h
-}
-
-// Whether one of the first n accesses is to this address.
-fn is_touched(accesses: [Touch; 4], n: usize, address: u64) -> bool
-    requires { ⌜ n ≤ 4 ⌝ }
-    ensures { λ r. ⌜ r ≡ stands address n accesses ⌝ }
-{
-    let mut i: usize = 0;
-    while i < n {
-        let touch = accesses[i];
-        if touch.address == address {
-            return true;
-        }
-        i += 1;
-    }
-    false
-}
-
-fn bit_of(b: bool) -> u64
-    ensures { λ r. ⌜ r ≡ bit b ⌝ }
-{
-    if b {
-        return 1;
-    }
-    0
-}
-
-// The line with one access more: from the fifth on only counted.
-fn with_access(hand: Hand, writes: bool, address: u64) -> Hand
-    ensures { λ r. ⌜ r ≡ withAccess hand writes address ⌝ }
-{
-    let mut h = hand;
-    h.out = either(hand.out, 65535 < address);
-    let n = h.touched;
-    if 4 <= n {
-        h.touched = 5;
-        return h;
-    }
-    let mut accesses = h.accesses;
-    h.again = either(hand.again, is_touched(accesses, n, address));
-    accesses[n] = Touch {
-        writes: bit_of(writes),
-        address,
-    };
-    h.accesses = accesses;
-    h.touched = n + 1;
-    h
-}
-
-// The line with one field more.
-pub fn with_item(hand: Hand, item: Item, workers: u64) -> Hand
-    requires { ⌜ hand .fields + 1 < 2 ^ 64 ⌝ }
-    ensures { λ r. ⌜ r ≡ holding workers hand item ⌝ }
-{
-    match item {
-        Item::Letter(kind) => fresh_line(kind, 1),
-        Item::Label(len) => with_number(hand, len as u64, false),
-        Item::Number { value, fits } => {
-            let kind = hand.kind;
-            with_number(hand, value, is_out(workers, kind, hand.fields, value, fits))
-        }
-        Item::Access { writes, address } => with_access(hand, writes, address),
-    }
-}
-
-// Whether a line of this kind with so many fields is whole.
-pub fn is_whole(kind: Kind, fields: u64) -> bool
-    ensures { λ r. ⌜ r ≡ isWhole kind fields ⌝ }
-{
-    match kind {
-        Kind::Unread => false,
-        Kind::Workers => fields == 2,
-        Kind::Task => fields == 3,
-        Kind::Picks => fields == 3,
-        Kind::Rounds => fields == 2,
-        Kind::Seeded => fields == 3,
-    }
-}
-
-// Whether a line of this kind stands in the wrong place: after so many workers (0: the W line is still to come), after an order line or not.
-fn is_misplaced(workers: u64, ordered: bool, kind: Kind) -> bool
-    ensures { λ r. ⌜ r ≡ isMisplaced workers ordered kind ⌝ }
-{
-    match kind {
-        Kind::Unread => false,
-        Kind::Workers => workers != 0,
-        Kind::Task => either(workers == 0, ordered),
-        Kind::Picks => workers == 0,
-        Kind::Rounds => workers == 0,
-        Kind::Seeded => workers == 0,
-    }
-}
-
-pub fn is_task(kind: Kind) -> bool
-    ensures { λ r. ⌜ r ≡ isTask kind ⌝ }
-{
-    match kind {
-        Kind::Unread => false,
-        Kind::Workers => false,
-        Kind::Task => true,
-        Kind::Picks => false,
-        Kind::Rounds => false,
-        Kind::Seeded => false,
-    }
-}
-
-// The limits of a line: those of a task, the task being number n.
-fn limits(hand: Hand, n: usize) -> Fault
-    ensures { λ r. ⌜ r ≡ limitsOf n hand ⌝ }
-{
-    let kind = hand.kind;
-    if is_task(kind) {
-        if 128 <= n {
-            return Fault::Is(Refusal::TooMany);
-        }
-        if 4 < hand.touched {
-            return Fault::Is(Refusal::TooMany);
-        }
-        if hand.again {
-            return Fault::Is(Refusal::AddressTwice);
-        }
-    }
-    Fault::Nothing
-}
-
-// The first of the faults of a line that is of its form.
-fn first_fault(misplaced: bool, out: bool, limits: Fault) -> Fault
-    ensures { λ r. ⌜ r ≡ firstFault misplaced out limits ⌝ }
+// The place of a line is judged before its numbers.
+fn first_fault(misplaced: bool, out: bool) -> Fault
+    ensures { λ r. ⌜ r ≡ firstFault misplaced out ⌝ }
 {
     if misplaced {
         return Fault::Is(Refusal::Misplaced);
@@ -277,20 +91,223 @@ fn first_fault(misplaced: bool, out: bool, limits: Fault) -> Fault
     if out {
         return Fault::Is(Refusal::OutOfRange);
     }
-    limits
+    Fault::Nothing
 }
 
-// A line that has ended: its form, then its place, its numbers and its limits.
-pub fn judge(hand: Hand, workers: u64, ordered: bool, tasks: usize) -> Fault
-    ensures { λ r. ⌜ r ≡ judged workers ordered tasks hand ⌝ }
+// W: first, and once.
+fn workers_line(text: &[u8], at: usize, sofar: Sofar) -> Line
+    requires { ⌜ at ≤ length (now text) ⌝ }
+    ensures { λ r. ⌜ ((p : Plan) → Sums sofar p → Whole (now (text .entry)) at p (oneNumber (workersLine p)) r) ⌝ }
 {
-    let kind = hand.kind;
-    if is_whole(kind, hand.fields) {
-        return first_fault(
-            is_misplaced(workers, ordered, kind),
-            hand.out,
-            limits(hand, tasks),
-        );
+    match read_number(text, at) {
+        Number::Malformed => wrong(),
+        Number::Is {
+            value,
+            fits: _,
+            next,
+            more,
+        } => {
+            if more {
+                return wrong();
+            }
+            Line {
+                kind: Kind::Workers,
+                first: value,
+                second: 0,
+                fault: first_fault(sofar.workers != 0, outside(1, 32, value)),
+                next,
+                more: false,
+            }
+        }
     }
-    Fault::Is(Refusal::Malformed)
+}
+
+// An order line: the count, who is picked, and the seed.
+fn order_line(n: u64, who: u64, seed: u64, out: bool, sofar: Sofar, next: usize) -> Line
+    requires { ⌜ (out ≡ false → (n ≤ 1000000) × (who < lay.who)) ⌝ }
+    ensures { λ r. ⌜ Ordered (firstFault (eqb (sofar .workers) 0) out) (n * lay.who + who) seed next r ⌝ }
+{
+    let fault = first_fault(sofar.workers == 0, out);
+    if let Fault::Is(_) = fault {
+        return Line {
+            kind: Kind::Order,
+            first: 0,
+            second: 0,
+            fault,
+            next,
+            more: false,
+        };
+    }
+    Line {
+        kind: Kind::Order,
+        first: n * layout::WHO + who,
+        second: seed,
+        fault,
+        next,
+        more: false,
+    }
+}
+
+// R: rounds.
+fn rounds_line(text: &[u8], at: usize, sofar: Sofar) -> Line
+    requires { ⌜ at ≤ length (now text) ⌝ }
+    ensures { λ r. ⌜ ((p : Plan) → Sums sofar p → Whole (now (text .entry)) at p (oneNumber (roundsLine p)) r) ⌝ }
+{
+    match read_number(text, at) {
+        Number::Malformed => wrong(),
+        Number::Is {
+            value: n,
+            fits: _,
+            next,
+            more,
+        } => {
+            if more {
+                return wrong();
+            }
+            order_line(n, layout::IN_TURN, 0, outside(1, 1000000, n), sofar, next)
+        }
+    }
+}
+
+// P: a worker, so many times.
+fn picks_line(text: &[u8], at: usize, sofar: Sofar) -> Line
+    requires { ⌜ (at ≤ length (now text)) × (sofar .workers ≤ 32) ⌝ }
+    ensures { λ r. ⌜ ((p : Plan) → Sums sofar p → Whole (now (text .entry)) at p (twoNumbers (picksLine p)) r) ⌝ }
+{
+    match read_number(text, at) {
+        Number::Malformed => wrong(),
+        Number::Is {
+            value: worker,
+            fits: _,
+            next: then,
+            more: goes_on,
+        } => {
+            if !goes_on {
+                return wrong();
+            }
+            match read_number(text, then) {
+                Number::Malformed => wrong(),
+                Number::Is {
+                    value: n,
+                    fits: _,
+                    next,
+                    more,
+                } => {
+                    if more {
+                        return wrong();
+                    }
+                    let out = either(sofar.workers <= worker, outside(1, 4096, n));
+                    order_line(n, worker, 0, out, sofar, next)
+                }
+            }
+        }
+    }
+}
+
+// S: a seed, and so many seeded picks.
+fn seeded_line(text: &[u8], at: usize, sofar: Sofar) -> Line
+    requires { ⌜ at ≤ length (now text) ⌝ }
+    ensures { λ r. ⌜ ((p : Plan) → Sums sofar p → Whole (now (text .entry)) at p (twoNumbers (seededLine p)) r) ⌝ }
+{
+    match read_number(text, at) {
+        Number::Malformed => wrong(),
+        Number::Is {
+            value: seed,
+            fits,
+            next: then,
+            more: goes_on,
+        } => {
+            if !goes_on {
+                return wrong();
+            }
+            match read_number(text, then) {
+                Number::Malformed => wrong(),
+                Number::Is {
+                    value: n,
+                    fits: _,
+                    next,
+                    more,
+                } => {
+                    if more {
+                        return wrong();
+                    }
+                    let out = either(!fits, outside(1, 1000000, n));
+                    order_line(n, layout::BY_SEED, seed, out, sofar, next)
+                }
+            }
+        }
+    }
+}
+
+// The row of a task without accesses.
+fn begin_row(row: &mut [u64], place: usize, size: usize, cost: u64)
+    requires { ⌜ length (now row) ≡ lay.taskRow ⌝ }
+    ensures { λ r. ⌜ now (row .exit) ≡ bareRow place size cost ⌝ }
+{
+    let mut k: usize = layout::COUNT;
+    while k < layout::TASK_ROW {
+        row[k] = 0;
+        k += 1;
+    }
+    row[layout::PLACE] = place as u64;
+    row[layout::SIZE] = size as u64;
+    row[layout::COST] = cost;
+}
+
+// T: a label and a cost; its accesses follow.
+fn task_line(text: &[u8], at: usize, sofar: Sofar, row: &mut [u64]) -> Line
+    requires { ⌜ (at ≤ length (now text)) × (length (now row) ≡ lay.taskRow) ⌝ }
+    ensures { λ r. ⌜ ((p : Plan) → Sums sofar p → TaskHead (now (text .entry)) at p (now (row .exit)) r) ⌝ }
+{
+    match read_label(text, at) {
+        Label::Malformed => wrong(),
+        Label::Is {
+            len,
+            next: then,
+            more: goes_on,
+        } => {
+            if !goes_on {
+                return wrong();
+            }
+            match read_number(text, then) {
+                Number::Malformed => wrong(),
+                Number::Is {
+                    value: cost,
+                    fits: _,
+                    next,
+                    more,
+                } => {
+                    begin_row(row, at, len, cost);
+                    let misplaced = either(sofar.workers == 0, sofar.orders != 0);
+                    Line {
+                        kind: Kind::Task,
+                        first: 0,
+                        second: 0,
+                        fault: first_fault(misplaced, 1000 < cost),
+                        next,
+                        more,
+                    }
+                }
+            }
+        }
+    }
+}
+
+// The line at a place: a letter and a tab, and the fields of its kind.
+pub fn read_line(text: &[u8], at: usize, sofar: Sofar, row: &mut [u64]) -> Line
+    requires { ⌜ (at < length (now text)) × (length (now row) ≡ lay.taskRow) × (sofar .workers ≤ 32) ⌝ }
+    ensures { λ r. ⌜ ((p : Plan) → Sums sofar p → LineAt (now (text .entry)) at p (now (row .exit)) r) ⌝ }
+{
+    let letter = look(text, at);
+    if look(text, at + 1) != TAB {
+        return wrong();
+    }
+    match letter {
+        87 => workers_line(text, at + 2, sofar),
+        84 => task_line(text, at + 2, sofar, row),
+        80 => picks_line(text, at + 2, sofar),
+        82 => rounds_line(text, at + 2, sofar),
+        83 => seeded_line(text, at + 2, sofar),
+        _ => wrong(),
+    }
 }

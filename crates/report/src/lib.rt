@@ -45,7 +45,7 @@ fn put_task(
         → Wrote (now (out .entry)) at (fields (fieldsOf c s i)) r (now (out .exit))) ⌝ }
 {
     let stands = label_of(labels, i);
-    let label = reader::label(text, stands.place as usize, stands.size as usize);
+    let label = kept::tasks::label(text, stands.place as usize, stands.size as usize);
     put_task_line(i as u64, label, outcome_of(tasks, i), out, at)
 }
 

@@ -198,21 +198,22 @@ pub fn pick(
     let at = w * SHARE;
     let end = at + SHARE;
     let place = store[at + PLACE];
-    if DRAINING_TO_SERVE <= place {
-        return drain_step(r, ready, store, w);
+    // the commoner way first: the compiler then lays it out without a jump
+    if place < DRAINING_TO_SERVE {
+        return step_own(
+            r,
+            wait,
+            registrations,
+            tickets,
+            cells,
+            ready,
+            rows,
+            accesses,
+            &mut store[at..end],
+            w as u64,
+        );
     }
-    step_own(
-        r,
-        wait,
-        registrations,
-        tickets,
-        cells,
-        ready,
-        rows,
-        accesses,
-        &mut store[at..end],
-        w as u64,
-    )
+    drain_step(r, ready, store, w)
 }
 
 // Whether the state is finished.

@@ -14,9 +14,8 @@ use Rattle.plan.specs.Reading.{reading, accepted}
 use Rattle.tasks.specs.Accesses.{taskAt, first, total}
 use Rattle.tasks.specs.Tasks.{new}
 use Rattle.tasks.specs.Promise.{first-zero, first-all}
-use Rattle.reader.specs.declared.Row.{Row}
-use Rattle.reader.specs.declared.ReadPlan.{ReadPlan}
-use Rattle.reader.specs.Verdict.{Says}
+use Rattle.kept.specs.declared.tasks.Row.{Row}
+use Rattle.kept.specs.Tasks.{rowAt, HasTasks}
 use Rattle.memory.specs.declared.labels.Label.{Label}
 use Rattle.memory.specs.Layout as layout
 use Rattle.memory.specs.Rows.{Column, TaskRows, newTask, withTask}
@@ -91,7 +90,7 @@ module _ (ts : List Task) (text : List ℕ) where
       (λ (z : i ≢ n). rw (label-other rows n l i z) (old i (omega arith)))
       (same i n)
 
--- ---- the tasks and labels of a plan that was read, up to task i; `begin` is the number of its first access
+-- ---- the tasks and labels of a plan, up to task i; `begin` is the number of its first access
 
 abbrev pub TasksTo : List ℕ → Plan → ℕ → ℕ → List ℕ → List ℕ → Type 0
 TasksTo text p i begin rows places = (begin ≡ first (p .tasks) i) × TasksLaid (p .tasks) i rows × LabelsLaid (p .tasks) text i places
@@ -99,24 +98,24 @@ TasksTo text p i begin rows places = (begin ≡ first (p .tasks) i) × TasksLaid
 pub tasks-begin : (text : List ℕ) (p : Plan) (rows places : List ℕ) → TasksTo text p 0 0 rows places
 tasks-begin text p rows places = (sym (first-zero (p .tasks)), λ k h i l. absurd (omega arith), λ i l. absurd (omega arith))
 
-module _ (text : List ℕ) (p : Plan) (r : ReadPlan) (e : reading text ≡ accepted p) (says : Says text r p) where
-  pub task-laid : (i begin : ℕ) (d : Row) (rows places rows' places' : List ℕ) → i < r .tasks
+module _ (text : List ℕ) (p : Plan) (e : reading text ≡ accepted p) (count : ℕ) (size : count ≡ length (p .tasks))
+    (kept : List ℕ) (has : HasTasks text kept (p .tasks)) where
+  pub task-laid : (i begin : ℕ) (row : Row) (rows places rows' places' : List ℕ) → i < count → row ≡ rowAt kept i
       → layout.taskRow * i + layout.taskRow ≤ length rows → layout.labelRow * i + layout.labelRow ≤ length places
-      → let row = getD (r .rows) i d in rows' ≡ withTask rows i (newTask (row .cost) begin (row .touched))
-      → places' ≡ withLabel places i (record { place = row .label; size = row .len })
-      → TasksTo text p i begin rows places → TasksTo text p (i + 1) (begin + row .touched) rows' places'
-  task-laid i begin d rows places rows' places' l fits fits' e1 e2 (b, h, k) =
-      let row = getD (r .rows) i d in
-      let low : i < length (p .tasks) = omega (arith, says .count) in
-      let s : RowSays text p r e says i row = says-row text p r e says i d low in
+      → rows' ≡ withTask rows i (newTask (row .cost) begin (row .count))
+      → places' ≡ withLabel places i (record { place = row .place; size = row .size })
+      → TasksTo text p i begin rows places → TasksTo text p (i + 1) (begin + row .count) rows' places'
+  task-laid i begin row rows places rows' places' l is fits fits' e1 e2 (b, h, k) =
+      let low : i < length (p .tasks) = omega (arith, size) in
+      let s : RowSays text p e kept has i row = rw is (says-row text p e kept has i low) in
       rw (add-one i, e1, e2) (
-        omega (arith, first-next text p r e says i row low s),
-        rw (s .cost, s .touched, b) (tasks-more (p .tasks) i rows fits h),
-        labels-more (p .tasks) text i places (record { place = row .label; size = row .len }) fits' (s .label) k,
+        omega (arith, first-next text p e kept has i row low s),
+        rw (s .cost, s .count, b) (tasks-more (p .tasks) i rows fits h),
+        labels-more (p .tasks) text i places (record { place = row .place; size = row .size }) fits' (s .label) k,
       )
 
-  pub tasks-end : (i begin : ℕ) (rows places : List ℕ) → i ≡ r .tasks → TasksTo text p i begin rows places
+  pub tasks-end : (i begin : ℕ) (rows places : List ℕ) → i ≡ count → TasksTo text p i begin rows places
       → NewTasks p rows × Labels (p .tasks) text places × (begin ≡ total (p .tasks))
   tasks-end i begin rows places z (b, h, k) =
-      let all : i ≡ length (p .tasks) = omega (arith, says .count) in
+      let all : i ≡ length (p .tasks) = omega (arith, size) in
       (tasks-all (p .tasks) rows (rw all at h), rw all at k, b ∙ first-all (p .tasks) i (omega arith))

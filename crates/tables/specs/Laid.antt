@@ -8,9 +8,8 @@ use lib.ListN.{length, getD, set}
 use lib.Dec.{eqb}
 use Rattle.plan.specs.Plan.{Task}
 use Rattle.tasks.specs.Accesses as plan
-use Rattle.tasks.specs.Accesses.{total, addr, taskAt}
-use Rattle.reader.specs.declared.line.Touch.{Touch}
-use Rattle.reader.specs.PassLines.{accessesIn}
+use Rattle.tasks.specs.Accesses.{noAccess, total, addr, taskAt}
+use Rattle.kept.specs.Tasks.{touchAt, touchOf}
 use Rattle.memory.specs.Layout as layout
 use Rattle.memory.specs.Codes.{optionCode}
 use Rattle.memory.specs.Rows.{Column, newAccess}
@@ -44,9 +43,9 @@ pub record IsAccess (ts : List Task) (a task reads address : ℕ) : Type 0 where
   pub kind : plan.reader ts a ≡ reads
   pub at : addr ts a ≡ address
 
--- the n accesses of task i, which begin with number `at`
-pub record AreAccesses (ts : List Task) (i at n : ℕ) (touches : List Touch) : Type 0 where
+-- the n accesses of task i, which begin with number `at`, as its row has them
+pub record AreAccesses (ts : List Task) (i at n : ℕ) (kept : List ℕ) : Type 0 where
   pub low : i < length ts
   pub begins : plan.first ts i ≡ at
   pub count : length (taskAt ts i .accesses) ≡ n
-  pub accesses : accessesIn n touches ≡ taskAt ts i .accesses
+  pub accesses : (k : ℕ) → k < n → touchAt kept i k ≡ touchOf (getD (taskAt ts i .accesses) k noAccess)

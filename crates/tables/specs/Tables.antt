@@ -1,22 +1,24 @@
--- What is laid out of a plan that was read.
+-- What is laid out of a plan whose tasks are kept.
 use Prim.Native.Nat.{ℕ}
 use mathlib.Core.Path.{_≡_}
 use mathlib.Core.List.{List}
+use lib.ListN.{length}
 use Rattle.plan.specs.Plan.{Plan}
 use Rattle.plan.specs.Reading.{reading, accepted}
 use Rattle.tasks.specs.Flags.{noFlag}
 use Rattle.tasks.specs.Tasks.{new}
-use Rattle.reader.specs.declared.ReadPlan.{ReadPlan}
-use Rattle.reader.specs.Verdict.{Says}
+use Rattle.kept.specs.Tasks.{HasTasks}
 use Rattle.memory.specs.Rows.{TaskRows, AccessRows}
 
--- an accepted plan was read
-abbrev pub Readable : ReadPlan → Type 0
-Readable r = (text : List ℕ) × (p : Plan) × (reading text ≡ accepted p) × Says text r p
+-- so many tasks are kept, of an accepted plan
+abbrev pub Readable : List ℕ → ℕ → Type 0
+Readable plan count =
+    (text : List ℕ) × (p : Plan) × (reading text ≡ accepted p) × (count ≡ length (p .tasks)) × HasTasks text plan (p .tasks)
 
--- of whatever accepted plan was read
-abbrev pub OfPlan : ReadPlan → (List ℕ → Plan → Type 0) → Type 0
-OfPlan r Q = (text : List ℕ) (p : Plan) → reading text ≡ accepted p → Says text r p → Q text p
+-- of whatever accepted plan they are kept
+abbrev pub OfPlan : List ℕ → ℕ → (List ℕ → Plan → Type 0) → Type 0
+OfPlan plan count Q =
+    (text : List ℕ) (p : Plan) → reading text ≡ accepted p → count ≡ length (p .tasks) → HasTasks text plan (p .tasks) → Q text p
 
 -- the rows of tasks that are not yet created, and of accesses with no flag set
 abbrev pub NewTasks : Plan → List ℕ → Type 0

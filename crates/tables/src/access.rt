@@ -8,14 +8,14 @@ ghost use lib.Dec.{eqb};
 ghost use Rattle.plan.specs.Plan.{Task};
 ghost use Rattle.runs.specs.Searches.{lastBelow};
 ghost use Rattle.tasks.specs.Accesses.{total as Total};
+ghost use Rattle.kept.specs.Layout as keep;
 ghost use Rattle.memory.specs.Layout as layout;
 ghost use Rattle.memory.specs.Codes.{optionCode};
 ghost use Rattle.tables.specs.Laid.{atAddress, followed, Laid, IsAccess, AreAccesses};
 ghost use Rattle.tables.specs.Tables.{Readable, OfPlan, NewAccesses};
-use memory::layout::MOST_TASK_ACCESSES;
+use kept::tasks::row_at;
+use kept::tasks::touch_at;
 use memory::rows;
-use reader::ReadPlan;
-use reader::line::Touch;
 
 // The last access before a to this address, and 1 more, or 0.
 fn previous(accesses: &[u64], a: usize, address: u64) -> usize
@@ -73,21 +73,15 @@ fn reads_of(writes: u64) -> u64
 }
 
 // Lays the accesses of one task, of which the first has number `at`.
-fn lay_accesses(
-    accesses: &mut [u64],
-    touches: [Touch; MOST_TASK_ACCESSES],
-    n: usize,
-    task: usize,
-    at: usize,
-    total: usize,
-)
-    requires { ⌜ (length (now accesses) ≡ layout.accessRows) × (n ≤ layout.mostTaskAccesses) × (at + n ≤ layout.mostAccesses) ⌝ }
-    ensures { λ _. ⌜ ((ts : List Task) → Total ts ≡ total → AreAccesses ts task at n touches →
+fn lay_accesses(accesses: &mut [u64], plan: &[u64], n: usize, task: usize, at: usize, total: usize)
+    requires { ⌜ (length (now accesses) ≡ layout.accessRows) × (length (now plan) ≡ keep.taskRows)
+        × (n ≤ keep.mostTaskAccesses) × (task < keep.mostTasks) × (at + n ≤ layout.mostAccesses) ⌝ }
+    ensures { λ _. ⌜ ((ts : List Task) → Total ts ≡ total → AreAccesses ts task at n (now (plan .entry)) →
         Laid ts at (now (accesses .entry)) → Laid ts (at + n) (now (accesses .exit))) ⌝ }
 {
     let mut k: usize = 0;
     while k < n {
-        let touch = touches[k];
+        let touch = touch_at(plan, task, k);
         chain_access(
             accesses,
             at + k,
@@ -101,19 +95,17 @@ fn lay_accesses(
 }
 
 // Lays a plan's accesses, so many.
-pub fn lay_plan_accesses(read: ReadPlan, accesses: &mut [u64], total: usize)
-    requires { ⌜ length (now accesses) ≡ layout.accessRows ⌝ }
-    requires { ⌜ Readable read ⌝ }
-    ensures { λ _. ⌜ OfPlan read (λ text p. total ≡ Total (p .tasks) → NewAccesses p (now (accesses .exit))) ⌝ }
+pub fn lay_plan_accesses(plan: &[u64], count: usize, accesses: &mut [u64], total: usize)
+    requires { ⌜ (length (now plan) ≡ keep.taskRows) × (length (now accesses) ≡ layout.accessRows) ⌝ }
+    requires { ⌜ Readable (now plan) count ⌝ }
+    ensures { λ _. ⌜ OfPlan (now (plan .entry)) count (λ text p. total ≡ Total (p .tasks) → NewAccesses p (now (accesses .exit))) ⌝ }
 {
-    let n = read.tasks;
     let mut at: usize = 0;
     let mut i: usize = 0;
-    while i < n {
-        let row = read.rows[i];
-        let touches = row.accesses;
-        lay_accesses(accesses, touches, row.touched, i, at, total);
-        at += row.touched;
+    while i < count {
+        let row = row_at(plan, i);
+        lay_accesses(accesses, plan, row.count as usize, i, at, total);
+        at += row.count as usize;
         i += 1;
     }
 }

@@ -11,7 +11,7 @@ use Rattle.runs.specs.Sums.{sum}
 use Rattle.runs.specs.Searches.{lastBelow, firstFrom}
 use Rattle.runs.specs.Every.{every}
 use Rattle.plan.specs.Plan.{Access, Task}
-use Rattle.plan.specs.Reading.{repeats}
+use Rattle.plan.specs.Line.{repeats}
 
 unfoldable pub accesses : List Task → List Access
 accesses [] = []

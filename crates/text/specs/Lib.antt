@@ -1,5 +1,8 @@
 pub mod Text
+pub mod Basics
 pub mod Decimals
+pub mod Fields
+pub mod FieldLaws
 pub mod Lines
 pub mod Writing
 pub mod WritingLaws

@@ -1,4 +1,5 @@
 -- `play_line` meets its contract.
+use Prim.Native.Nat.{_-_}
 use mathlib.Core.Path.{_≡_, sym, _∙_}
 use native.Mathlib.Omega.{arith}
 use borrow.Author.Needs.{needs}
@@ -7,28 +8,28 @@ use Rattle.machine.specs.Step.{finished}
 use Rattle.steps.specs.Memory.{share, Memory, Holds}
 use Rattle.scheduler.specs.Lent.{memory}
 use Rattle.orders.specs.Played.{LineAble}
-use Rattle.orders.proofs.Playing.{Goes, goes-start, able-formed, able-fits, still-able}
-use Rattle.orders.proofs.Playing.{comes-full, comes-finished, comes-empty, goes-pick}
+use Rattle.orders.proofs.Playing.{Goes, goes-start, able-formed, able-fits, able-counts, still-able}
+use Rattle.orders.proofs.Playing.{comes-full, comes-finished, goes-pick}
 use Rattle.orders.proofs.play_line.Statement.{statement}
 use Rattle.orders.proofs.play_line.Tie as tie
 
 abbrev Inv-loop : tie.InvT-loop
-Inv-loop limit wait₀ registrations₀ tickets₀ cells₀ ready₀ rows₀ accesses₀ store₀ n₀ line₀
+Inv-loop end wait₀ registrations₀ tickets₀ cells₀ ready₀ rows₀ accesses₀ store₀ n₀ line₀
     wait registrations tickets cells ready rows accesses store n line =
-    Goes limit (memory n₀ wait₀ registrations₀ tickets₀ cells₀ ready₀ rows₀ accesses₀) store₀ line₀
+    Goes end (memory n₀ wait₀ registrations₀ tickets₀ cells₀ ready₀ rows₀ accesses₀) store₀ line₀
     (memory n wait registrations tickets cells ready rows accesses) store line
 
 abbrev μ-loop : tie.MeasureT-loop
-μ-loop limit wait₀ registrations₀ tickets₀ cells₀ ready₀ rows₀ accesses₀ store₀ n₀ line₀
+μ-loop end wait₀ registrations₀ tickets₀ cells₀ ready₀ rows₀ accesses₀ store₀ n₀ line₀
     wait registrations tickets cells ready rows accesses store n line =
-    line .left
+    end - n .picks
 
 -- places of the code, from a later one back to an earlier one
 abbrev begun : tie.At-loop Inv-loop μ-loop → tie.Start Inv-loop μ-loop
 begun c = c .before .before .before .before .before .before .before .before .before
 
 abbrev looped : tie.After-is-finished Inv-loop μ-loop → tie.At-loop Inv-loop μ-loop
-looped c = c .before .before .before .before .before
+looped c = c .before .before .before
 
 abbrev tested : tie.After-draw Inv-loop μ-loop → tie.After-is-finished Inv-loop μ-loop
 tested c = c .before .before
@@ -48,7 +49,7 @@ held c =
     memory (x .n) (x .wait) (x .registrations) (x .tickets) (x .cells) (x .ready) (x .rows) (x .accesses)
 
 -- the state there, from which the rest of the line can be played
-able : (c : tie.At-loop Inv-loop μ-loop) → LineAble (begun c .args .limit) (c .loop .line) (held c) (c .loop .store)
+able : (c : tie.At-loop Inv-loop μ-loop) → LineAble (begun c .args .end) (c .loop .line) (held c) (c .loop .store)
 able c = still-able (c .loop .inv) (begun c .pre)
 
 -- whether it is finished
@@ -58,6 +59,9 @@ tells c k s h = c .is-finished .ensures (held (looped c)) k s (share (looped c .
 
 loop-holds : tie.Need-loop-holds Inv-loop μ-loop
 loop-holds c = goes-start
+
+is-finished-requires : tie.Need-is-finished-requires Inv-loop μ-loop
+is-finished-requires c κs = search needs
 
 same-length : tie.Need-same-length Inv-loop μ-loop
 same-length c = search needs
@@ -84,10 +88,48 @@ same-length-8 : tie.Need-same-length-8 Inv-loop μ-loop
 same-length-8 c = search needs
 
 returns : tie.Need-returns Inv-loop μ-loop
-returns c = comes-full (c .before .before .before .before .loop .inv) (c .if2 .taken)
+returns c = comes-finished (looped (c .before) .loop .inv) (λ k s h. sym (c .if2 .taken) ∙ tells (c .before) k s h)
 
-is-finished-requires : tie.Need-is-finished-requires Inv-loop μ-loop
-is-finished-requires c κs = search needs
+draw-requires : tie.Need-draw-requires Inv-loop μ-loop
+draw-requires c κs = able-formed (able (looped (c .before)))
+
+pick-requires : tie.Need-pick-requires Inv-loop μ-loop
+pick-requires c κs =
+    let d = c .before .before .before .before .before .before .before .before .before in
+    let f = tested d in
+    let a = able (looped f) in
+    (a .room, (a .c, a .s, a .long, a .holds, able-fits a (f .before .if1 .taken) (d .draw .result) (d .draw .ensures)))
+
+loop-less : tie.Need-loop-less Inv-loop μ-loop
+loop-less c =
+    let p = pick-over c in
+    let d = drawn p in
+    let f = tested d in
+    let a = able (looped f) in
+    let below = f .before .if1 .taken in
+    let fit = able-fits a below (d .draw .result) (d .draw .ensures) in
+    omega (arith, able-counts a below (d .draw .result) (d .draw .ensures) (p .pick .ensures .0 (a .c) (a .s) (a .holds) fit))
+
+loop-again : tie.Need-loop-again Inv-loop μ-loop
+loop-again c =
+    let p = pick-over c in
+    let k = p .pick .kept .1 in
+    let d = drawn p in
+    let f = tested d in
+    goes-pick (looped f .loop .inv) (f .before .if1 .taken) (λ k s h. sym (d .before .if2 .left) ∙ tells f k s h)
+    (d .draw .result) (d .draw .ensures)
+    (record {
+      wait = k .0;
+      registrations = k .1 .0;
+      tickets = k .1 .1 .0;
+      cells = k .1 .1 .1 .0;
+      ready = k .1 .1 .1 .1 .0;
+      rows = k .1 .1 .1 .1 .1 .0;
+      accesses = k .1 .1 .1 .1 .1 .1 .0;
+      size = k .1 .1 .1 .1 .1 .1 .1 .0;
+      later = p .pick .ensures .1;
+    })
+    (p .pick .ensures .0)
 
 same-length-9 : tie.Need-same-length-9 Inv-loop μ-loop
 same-length-9 c = search needs
@@ -114,68 +156,7 @@ same-length-16 : tie.Need-same-length-16 Inv-loop μ-loop
 same-length-16 c = search needs
 
 returns-2 : tie.Need-returns-2 Inv-loop μ-loop
-returns-2 c = comes-finished (looped (c .before) .loop .inv) (λ k s h. sym (c .if3 .taken) ∙ tells (c .before) k s h)
-
-draw-requires : tie.Need-draw-requires Inv-loop μ-loop
-draw-requires c κs = (c .before .before .before .before .if1 .taken, able-formed (able (looped (c .before))))
-
-pick-requires : tie.Need-pick-requires Inv-loop μ-loop
-pick-requires c κs =
-    let d = c .before .before .before .before .before .before .before .before .before in
-    let a = able (looped (tested d)) in
-    let fit = able-fits a (d .before .before .before .before .before .if1 .taken) (d .draw .result) (d .draw .ensures) in
-    (a .room, (a .c, a .s, a .long, a .holds, fit))
-
-loop-less : tie.Need-loop-less Inv-loop μ-loop
-loop-less c = omega (arith, drawn (pick-over c) .draw .ensures .less)
-
-loop-again : tie.Need-loop-again Inv-loop μ-loop
-loop-again c =
-    let p = pick-over c in
-    let k = p .pick .kept .1 in
-    let d = drawn p in
-    let f = tested d in
-    goes-pick (looped f .loop .inv) (f .before .before .before .if1 .taken) (f .before .if2 .left)
-    (λ k s h. sym (d .before .if3 .left) ∙ tells f k s h) (d .draw .result) (d .draw .ensures)
-    (record {
-      wait = k .0;
-      registrations = k .1 .0;
-      tickets = k .1 .1 .0;
-      cells = k .1 .1 .1 .0;
-      ready = k .1 .1 .1 .1 .0;
-      rows = k .1 .1 .1 .1 .1 .0;
-      accesses = k .1 .1 .1 .1 .1 .1 .0;
-      size = k .1 .1 .1 .1 .1 .1 .1 .0;
-      later = p .pick .ensures .1;
-    })
-    (p .pick .ensures .0)
-
-same-length-17 : tie.Need-same-length-17 Inv-loop μ-loop
-same-length-17 c = search needs
-
-same-length-18 : tie.Need-same-length-18 Inv-loop μ-loop
-same-length-18 c = search needs
-
-same-length-19 : tie.Need-same-length-19 Inv-loop μ-loop
-same-length-19 c = search needs
-
-same-length-20 : tie.Need-same-length-20 Inv-loop μ-loop
-same-length-20 c = search needs
-
-same-length-21 : tie.Need-same-length-21 Inv-loop μ-loop
-same-length-21 c = search needs
-
-same-length-22 : tie.Need-same-length-22 Inv-loop μ-loop
-same-length-22 c = search needs
-
-same-length-23 : tie.Need-same-length-23 Inv-loop μ-loop
-same-length-23 c = search needs
-
-same-length-24 : tie.Need-same-length-24 Inv-loop μ-loop
-same-length-24 c = search needs
-
-returns-3 : tie.Need-returns-3 Inv-loop μ-loop
-returns-3 c = comes-empty (c .before .before .loop .inv) (c .if1 .left)
+returns-2 c = comes-full (c .before .before .loop .inv) (c .if1 .left)
 
 pub play-line-spec : {M : Type 1} → statement M
 play-line-spec =
@@ -184,6 +165,7 @@ play-line-spec =
     Inv-loop
     μ-loop
     loop-holds
+    is-finished-requires
     same-length
     same-length-2
     same-length-3
@@ -193,7 +175,10 @@ play-line-spec =
     same-length-7
     same-length-8
     returns
-    is-finished-requires
+    draw-requires
+    pick-requires
+    loop-less
+    loop-again
     same-length-9
     same-length-10
     same-length-11
@@ -202,17 +187,4 @@ play-line-spec =
     same-length-14
     same-length-15
     same-length-16
-    returns-2
-    draw-requires
-    pick-requires
-    loop-less
-    loop-again
-    same-length-17
-    same-length-18
-    same-length-19
-    same-length-20
-    same-length-21
-    same-length-22
-    same-length-23
-    same-length-24
-    returns-3)
+    returns-2)

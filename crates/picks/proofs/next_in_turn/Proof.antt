@@ -11,10 +11,14 @@ add-next : tie.Need-add-next
 add-next c = search needs
 
 returns : tie.Need-returns
-returns c = let w = c .before .args .worker in omega (arith, turn-on (c .before .args .workers) w (omega arith))
+returns c =
+    let x = c .before .args in
+    (λ e. omega arith, λ e. omega (arith, turn-on (x .workers) (x .worker) (omega arith)))
 
 returns-2 : tie.Need-returns-2
-returns-2 c = let w = c .before .args .worker in sym (turn-back (c .before .args .workers) w (omega arith))
+returns-2 c =
+    let x = c .before .args in
+    (λ e. omega arith, λ e. sym (turn-back (x .workers) (x .worker) (omega arith)))
 
 pub next-in-turn-spec : {M : Type 1} → statement M
 next-in-turn-spec = tie.close (tie.spec add-next returns returns-2)

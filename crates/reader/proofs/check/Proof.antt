@@ -1,17 +1,40 @@
--- `reader::check` meets its contract: the answer is one part of what `read` gives.
--- Assumes nothing.
-use denote.Ref.{now}
-use Rattle.plan.specs.Reading.{reading}
-use Rattle.reader.proofs.Turns.{gives-checked}
+-- `reader::check` meets its contract: nothing is lent to `read`. Assumes nothing.
+use mathlib.Core.List.{[]}
 use borrow.Author.Needs.{needs}
+use Rattle.plan.specs.Reading.{reading}
+use Rattle.reader.specs.Verdict.{lent}
+use Rattle.reader.proofs.Turns.{gives-checked}
 use Rattle.reader.proofs.check.Statement.{statement}
 use Rattle.reader.proofs.check.Tie as tie
+
+array-borrow-prefix-none : tie.Need-array-borrow-prefix-none
+array-borrow-prefix-none c = search needs
+
+slice-aggregate-read : tie.Need-slice-aggregate-read
+slice-aggregate-read c = search needs
+
+array-borrow-prefix-no-orders : tie.Need-array-borrow-prefix-no-orders
+array-borrow-prefix-no-orders c = search needs
+
+slice-aggregate-read-2 : tie.Need-slice-aggregate-read-2
+slice-aggregate-read-2 c = search needs
 
 read-requires : tie.Need-read-requires
 read-requires c κs = search needs
 
 returns : tie.Need-returns
-returns c = gives-checked (now (c .before .before .args .text)) (c .read .result) (reading (now (c .before .before .args .text))) (c .read .ensures)
+returns c =
+    let text = c .before .before .before .before .before .before .args .text .now in
+    let after = lent (c .before .before .read .last .1 .0) (c .before .before .read .last .1 .1 .0) in
+    gives-checked text (lent [] []) after (c .before .before .read .result) (reading text) (c .before .before .read .ensures)
 
 pub check-spec : {M : Type 1} → statement M
-check-spec = tie.close (tie.spec read-requires returns)
+check-spec =
+    tie.close
+    (tie.spec
+    array-borrow-prefix-none
+    slice-aggregate-read
+    array-borrow-prefix-no-orders
+    slice-aggregate-read-2
+    read-requires
+    returns)

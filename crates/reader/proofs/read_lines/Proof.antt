@@ -1,127 +1,149 @@
--- `reader::read_lines` meets its contract: outer loop: the text from a line on comes to what the whole text does, with the plan so far in the rows; inner loop: what is read of the line is in hand.
--- Assumes nothing.
-use borrow.Author.Needs.{needs}
-use native.Mathlib.Omega.{arith}
+-- `reader::read_lines` meets its contract. Outer loop: the text from a line on comes to what the whole text does, and the lines before are
+-- kept; inner loop: what is read of the line is in hand. Assumes nothing.
+use Prim.Native.Nat.{ℕ, _+_, _-_, _≤_, _<_}
 use mathlib.Core.Path.{_≡_, refl, sym, _∙_}
-use mathlib.Core.Bool.{true, false}
-use mathlib.Core.Logic.{⊎-elim}
-use Prim.Native.Nat.{_+_, _-_, _≤_, _<_}
-use lib.ListN.{length, set}
+use mathlib.Core.Logic.{_⊎_, ⊎-elim}
+use native.Mathlib.Omega.{arith}
+use borrow.Author.Needs.{needs}
+use lib.ListN.{length}
 use Rattle.refusals.specs.declared.Refusal.{Refusal}
 use Rattle.refusals.specs.declared.Refusal.the-variants.{Malformed}
+use Rattle.text.specs.Basics.{never}
+use Rattle.plan.specs.Plan.{Plan}
+use Rattle.plan.specs.Reading.{refused}
+use Rattle.kept.specs.Layout.{taskRow}
+use Rattle.kept.specs.OrderLaws.{orders-length}
+use Rattle.kept.specs.TaskLaws.{tasks-length}
 use Rattle.reader.specs.declared.line.Fault.the-variants.{Nothing, Is}
-use Rattle.plan.specs.Reading.{refused, reading}
-use Rattle.reader.specs.PassLines.{holding, isTask}
-use Rattle.reader.specs.PassTexts.{rowIn}
-use Rattle.plan.proofs.Basics.{never}
-use Rattle.reader.proofs.Turns.{InLine, AtLine, line-begins, holding-fields, field-read, field-bad, text-begins, gives-refused, line-bad, line-task, line-other, no-workers, whole-text}
+use Rattle.reader.specs.Verdict.{lent}
+use Rattle.reader.proofs.Turns.{comes, comes-formless, InLine, found, line-inside, access-next, access-read, access-wrong}
+use Rattle.reader.proofs.Turns.{line-refused, AtLine, text-begins, in-hand, line-kept, gives-refused, gives-misplaced, gives-accepted}
 use Rattle.reader.proofs.read_lines.Statement.{statement}
 use Rattle.reader.proofs.read_lines.Tie as tie
 
 abbrev Inv-loop : tie.InvT-loop
-Inv-loop text rows sofar line at₀ begin hand₀ more₀ at hand more =
-    (begin ≤ at) × (at ≤ length text) × (hand .fields ≤ at) × InLine (sofar .workers) text begin at hand more
+Inv-loop text rows orders sofar number at₀ row₀ line accesses₀ more₀ at row accesses more =
+    (length row ≡ taskRow) × (at ≤ length text)
+    × ((begin : ℕ) (p : Plan) → InLine text begin p line at₀ more₀ accesses₀ row₀ → InLine text begin p line at more accesses row)
 
 abbrev μ-loop : tie.MeasureT-loop
-μ-loop text rows sofar line at₀ begin hand₀ more₀ at hand more = length text - at
+μ-loop text rows orders sofar number at₀ row₀ line accesses₀ more₀ at row accesses more = length text - at
 
 abbrev Inv-lines : tie.InvT-lines
-Inv-lines text rows₀ sofar₀ line₀ at₀ fault₀ rows sofar line at fault =
-    (line ≤ at + 1) × (at ≤ length text) × (fault ≡ Nothing) × AtLine text at line sofar rows
+Inv-lines text rows₀ orders₀ sofar₀ number₀ at₀ fault₀ row₀ rows orders sofar number at fault row =
+    (length row ≡ taskRow) × (fault ≡ Nothing) × AtLine text (lent rows₀ orders₀) sofar number at (lent rows orders)
 
 abbrev μ-lines : tie.MeasureT-lines
-μ-lines text rows₀ sofar₀ line₀ at₀ fault₀ rows sofar line at fault = length text - at
+μ-lines text rows₀ orders₀ sofar₀ number₀ at₀ fault₀ row₀ rows orders sofar number at fault row = length text - at
 
--- the field that was read, in its line
-one-field : (c : tie.After-known-told Inv-loop μ-loop Inv-lines μ-lines)
-    → let x = c .before .field .given in let i = c .before .before .before .before .before .loop in let o = c .before .before .before .before .before .before .before .before .lines in
-    InLine (o .sofar .workers) (c .before .before .before .before .before .before .before .before .before .before .before .before .args .text .now) (o .at) (x .0 .1 .0) (holding (o .sofar .workers) (i .hand) (x .0 .0)) (x .0 .1 .1 .0)
-    × (i .at < x .0 .1 .0) × (x .0 .1 .0 ≤ length (c .before .before .before .before .before .before .before .before .before .before .before .before .args .text .now))
-one-field c =
-    let x = c .before .field .given in
-    let i = c .before .before .before .before .before .loop in
-    let o = c .before .before .before .before .before .before .before .before .lines in
-    field-read (o .sofar .workers) (c .before .before .before .before .before .before .before .before .before .before .before .before .args .text .now) (o .at) (i .at) (i .hand) (rw (c .before .before .before .before .loop-test .taken) at (i .inv .3)) (x .0 .0) (x .0 .1 .0)
-    (x .0 .1 .1 .0) (i .inv .1) (i .inv .0) (sym (c .before .before .before .next-field .ensures) ∙ x .1)
+-- the outer loop's place before one of the inner loop, and the function's start before that
+abbrev outer : tie.At-loop Inv-loop μ-loop Inv-lines μ-lines → tie.At-lines Inv-loop μ-loop Inv-lines μ-lines
+outer c = c .before .before .before .before .before .before
 
--- the line that has ended, without a fault
-one-line : (c : tie.After-is-task Inv-loop μ-loop Inv-lines μ-lines)
-    → let i = c .before .before .before .before .before .before .loop in let o = c .before .before .before .before .before .before .before .before .before .lines in let s = c .before .before .before .before .before .before .before .before .before .before .before .before .before .args .text .now in
-    (isTask (i .hand .kind) ≡ true → AtLine s (i .at) (o .line + 1) (c .before .plus-line .result) (set (o .rows) (o .sofar .tasks) (rowIn (i .hand) (o .at))) × (o .sofar .tasks < 128))
-    × (isTask (i .hand .kind) ≡ false → AtLine s (i .at) (o .line + 1) (c .before .plus-line .result) (o .rows))
-    × (o .at < i .at)
-one-line c =
-    let i = c .before .before .before .before .before .before .loop in
-    let o = c .before .before .before .before .before .before .before .before .before .lines in
-    let s = c .before .before .before .before .before .before .before .before .before .before .before .before .before .args .text .now in
-    let l : InLine (o .sofar .workers) s (o .at) (i .at) (i .hand) false = rw (c .before .before .before .before .before .loop-test .left) at (i .inv .3) in
-    let good = sym (c .before .before .before .before .judge .ensures) ∙ c .before .before .enum-told3 .given .1 in
-    rw (c .before .plus-line .ensures) (
-      line-task s (o .at) (i .at) (o .line) (o .sofar) (o .rows) (i .hand) (o .inv .3) (c .before .before .before .before .before .before .before .before .lines-test .taken) l Nothing good refl (i .inv .1),
-      line-other s (o .at) (i .at) (o .line) (o .sofar) (o .rows) (i .hand) (o .inv .3) (c .before .before .before .before .before .before .before .before .lines-test .taken) l Nothing good refl (i .inv .1),
-      omega (arith, l .3),
-    )
+abbrev start : tie.At-lines Inv-loop μ-loop Inv-lines μ-lines → tie.Start Inv-loop μ-loop Inv-lines μ-lines
+start c = c .before .before .before .before .before
+
+-- the access that was read: the place after it
+one-access : (c : tie.After-access Inv-loop μ-loop Inv-lines μ-lines)
+    → let l = c .before .before .before .before in let next = c .access .given .0 .1 .1 .0 in
+    (l .loop .at < next) × (next ≤ length (start (outer l) .args .text .now))
+one-access c =
+    let i = c .before .before .before .before .loop in
+    access-next _ (i .at) (i .inv .1) (sym (c .access .given .1) ∙ c .before .before .read-access .ensures)
+
+by-three : {A B C X : Type 0} → A ⊎ (B ⊎ C) → (A → X) → (B → X) → (C → X) → X
+by-three w f g h = ⊎-elim f (⊎-elim g h) w
 
 -- where the ways out of both loops meet
 left : (c : tie.Left-lines Inv-loop μ-loop Inv-lines μ-lines)
-    → let o = c .before .lines in let s = c .before .before .before .before .before .args .text .now in
-    (c .lines-test .fault ≡ Nothing → length s ≤ o .at) × ((r : Refusal) → c .lines-test .fault ≡ Is r → refused r (o .line) ≡ reading s)
+    → let o = c .before .lines in let text = c .before .before .before .before .before .before .args .text .now in
+    (c .lines-test .fault ≡ Nothing → length text ≤ o .at)
+    × ((r : Refusal) → c .lines-test .fault ≡ Is r → comes (o .inv .2 .p) (o .number) text (o .at) ≡ refused r (o .number))
 left c =
     let o = c .before .lines in
-    let s = c .before .before .before .before .before .args .text .now in
-    ⊎-elim
-    (λ w. ((λ e. w .0 .left), (λ r e. let q : Nothing ≡ Is r = sym (o .inv .2) ∙ sym (w .2) ∙ e in never (cc))))
-    (⊎-elim
-    (λ w. let i = w .2 in (
-      (λ e. let q : Is Malformed ≡ Nothing = sym (w .8) ∙ e in never (cc)),
-      (λ r e. let q : Is Malformed ≡ Is r = sym (w .8) ∙ e in let m : Malformed ≡ r = cc in
-          rw (← m) (field-bad s (o .at) (i .at) (o .line) (o .sofar) (o .rows) (i .hand) (o .inv .3) (w .0 .taken) (rw (w .3 .taken) at (i .inv .3)) (sym (w .4 .ensures) ∙ w .6 .given .1))),
+    let g = o .inv .2 in
+    by-three (c .lines-test .came)
+    (λ w. (λ e. w .0 .left, λ r e. let q : Nothing ≡ Is r = sym (o .inv .1) ∙ sym (w .2) ∙ e in never (cc)))
+    (λ w. (
+      λ e. let q : Is Malformed ≡ Nothing = sym (w .11) ∙ e in never (cc),
+      λ r e.
+          let q : Is Malformed ≡ Is r = sym (w .11) ∙ e in
+          let m : Malformed ≡ r = cc in
+          let hand = in-hand g (w .2 .ensures) (w .4 .ensures) (w .5 .inv .2) in
+          rw m at (comes-formless (g .p) (o .number) _ (o .at) (w .0 .taken)
+          (access-wrong (found hand (w .6 .taken)) (sym (w .9 .given .1) ∙ w .7 .ensures))),
     ))
-    (λ w. let i = w .2 in (
-      (λ e. let q : Is (w .6 .given .0 .0) ≡ Nothing = sym (w .6 .given .1) ∙ sym (w .8) ∙ e in never (cc)),
-      (λ r e. line-bad s (o .at) (i .at) (o .line) (o .sofar) (o .rows) (i .hand) (o .inv .3) (w .0 .taken) (rw (w .3 .left) at (i .inv .3)) (Is r)
-          (sym (w .4 .ensures) ∙ sym (w .8) ∙ e) r refl),
-    )))
-    (c .lines-test .came)
+    (λ w. (
+      λ e. let q : Is (w .9 .given .0 .0) ≡ Nothing = sym (w .9 .given .1) ∙ sym (w .11) ∙ e in never (cc),
+      λ r e.
+          let hand = in-hand g (w .2 .ensures) (w .4 .ensures) (w .5 .inv .2) in
+          line-refused (o .number) (found hand (w .6 .left)) (w .0 .taken) r
+          (rw (g .sums .tasks) at (sym (w .7 .ensures) ∙ sym (w .11) ∙ e)),
+    ))
 
-empty-row-requires : tie.Need-empty-row-requires Inv-loop μ-loop Inv-lines μ-lines
-empty-row-requires c κs = search needs
+-- a line without fault is kept
+one-line : (c : tie.After-keep Inv-loop μ-loop Inv-lines μ-lines)
+    → let l = c .before .before .before .before .before .before .before .before in
+    let o = outer l .lines in
+    let a = start (outer l) .args in
+    (o .at < l .loop .at) × AtLine (a .text .now) (lent (a .rows .now) (a .orders .now)) (c .keep .result) (o .number + 1) (l .loop .at)
+    (lent (c .keep .last .1 .1 .1 .0) (c .keep .last .1 .1 .1 .1 .0))
+one-line c =
+    let l = c .before .before .before .before .before .before .before .before in
+    let g = outer l .lines .inv .2 in
+    let hand = in-hand g (l .before .before .before .read-line .ensures) (l .before .no-accesses .ensures) (l .loop .inv .2) in
+    line-kept g (c .keep .ensures) (found hand (c .before .before .before .before .before .before .before .loop-test .left))
+    (sym (c .before .before .before .before .before .before .judge .ensures) ∙ c .before .before .before .before .enum-told3 .given .1)
 
 no-lines-requires : tie.Need-no-lines-requires Inv-loop μ-loop Inv-lines μ-lines
 no-lines-requires c κs = search needs
 
 lines-holds : tie.Need-lines-holds Inv-loop μ-loop Inv-lines μ-lines
-lines-holds c = (search needs, search needs, refl, rw (c .before .empty-row .ensures, c .no-lines .ensures) (text-begins _ (c .before .before .before .pre)))
+lines-holds c = (refl, refl, text-begins _ _ (c .no-lines .result) (c .no-lines .ensures))
 
-fresh-line-requires : tie.Need-fresh-line-requires Inv-loop μ-loop Inv-lines μ-lines
-fresh-line-requires c κs = search needs
+slice-aggregate-read-line : tie.Need-slice-aggregate-read-line Inv-loop μ-loop Inv-lines μ-lines
+slice-aggregate-read-line c = search needs
+
+read-line-requires : tie.Need-read-line-requires Inv-loop μ-loop Inv-lines μ-lines
+read-line-requires c κs = search needs
+
+no-accesses-requires : tie.Need-no-accesses-requires Inv-loop μ-loop Inv-lines μ-lines
+no-accesses-requires c κs = search needs
 
 loop-holds : tie.Need-loop-holds Inv-loop μ-loop Inv-lines μ-lines
-loop-holds c = (search needs, search needs, rw (c .fresh-line .ensures) (search needs), rw (c .fresh-line .ensures) (line-begins (c .before .before .lines .sofar .workers) (c .before .before .before .before .before .before .args .text .now) (c .before .before .lines .at)))
+loop-holds c =
+    let g = c .before .before .before .before .before .lines .inv .2 in
+    let hand = in-hand g (c .before .before .read-line .ensures) (c .no-accesses .ensures) (λ begin p l. l) in
+    (search needs, line-inside hand, λ begin p l. l)
 
-next-field-requires : tie.Need-next-field-requires Inv-loop μ-loop Inv-lines μ-lines
-next-field-requires c κs = search needs
+read-access-requires : tie.Need-read-access-requires Inv-loop μ-loop Inv-lines μ-lines
+read-access-requires c κs = search needs
 
 enum-told : tie.Need-enum-told Inv-loop μ-loop Inv-lines μ-lines
 enum-told c = search needs
 
-enum-known-field : tie.Need-enum-known-field Inv-loop μ-loop Inv-lines μ-lines
-enum-known-field c = search needs
+enum-known-access : tie.Need-enum-known-access Inv-loop μ-loop Inv-lines μ-lines
+enum-known-access c = search needs
 
-with-item-requires : tie.Need-with-item-requires Inv-loop μ-loop Inv-lines μ-lines
-with-item-requires c κs = omega (arith, one-field c, c .before .before .before .before .before .loop .inv .2, c .before .before .before .before .before .before .before .before .before .before .before .before .pre)
+slice-aggregate-with-access :
+    tie.Need-slice-aggregate-with-access Inv-loop μ-loop Inv-lines μ-lines
+slice-aggregate-with-access c = search needs
+
+with-access-requires : tie.Need-with-access-requires Inv-loop μ-loop Inv-lines μ-lines
+with-access-requires c κs = search needs
 
 loop-less : tie.Need-loop-less Inv-loop μ-loop Inv-lines μ-lines
-loop-less c = omega (arith, one-field (c .before))
+loop-less c = omega (arith, one-access (c .before .before .before .before))
 
 loop-again : tie.Need-loop-again Inv-loop μ-loop Inv-lines μ-lines
 loop-again c =
-    let f = one-field (c .before) in
-    let i = c .before .before .before .before .before .before .loop in (
-      omega (arith, i .inv .0),
-      f .2,
-      rw (c .with-item .ensures) (omega (arith, i .inv .2, holding-fields (c .before .before .before .before .before .before .before .before .before .lines .sofar .workers) (i .hand) (c .before .before .field .given .0 .0))),
-      rw (c .with-item .ensures) (f .0),
+    let x = c .before .before .before .before in
+    let l = x .before .before .before .before in (
+      search needs,
+      one-access x .1,
+      λ begin p hand.
+          access-read (rw (x .before .before .before .loop-test .taken) at (l .loop .inv .2 begin p hand))
+          (sym (x .access .given .1) ∙ x .before .before .read-access .ensures) (c .before .with-access .ensures),
     )
 
 judge-requires : tie.Need-judge-requires Inv-loop μ-loop Inv-lines μ-lines
@@ -133,47 +155,25 @@ enum-told-2 c = search needs
 enum-told-3 : tie.Need-enum-told-3 Inv-loop μ-loop Inv-lines μ-lines
 enum-told-3 c = search needs
 
-plus-line-requires : tie.Need-plus-line-requires Inv-loop μ-loop Inv-lines μ-lines
-plus-line-requires c κs = c .before .before .before .before .before .before .before .lines .inv .3 .1 .few-tasks
+slice-aggregate-keep : tie.Need-slice-aggregate-keep Inv-loop μ-loop Inv-lines μ-lines
+slice-aggregate-keep c = search needs
 
-add-line : tie.Need-add-line Inv-loop μ-loop Inv-lines μ-lines
-add-line c = omega (arith, c .before .before .before .before .before .before .before .before .lines .inv .0, c .before .before .before .before .before .before .before .before .lines .inv .1, c .before .before .before .before .before .before .before .before .before .before .before .before .pre)
+keep-requires : tie.Need-keep-requires Inv-loop μ-loop Inv-lines μ-lines
+keep-requires c κs = search needs
 
-is-task-requires : tie.Need-is-task-requires Inv-loop μ-loop Inv-lines μ-lines
-is-task-requires c κs = search needs
-
-row-of-requires : tie.Need-row-of-requires Inv-loop μ-loop Inv-lines μ-lines
-row-of-requires c κs = omega (arith, c .before .before .before .before .before .before .before .before .before .before .lines .inv .1, c .before .before .before .before .before .before .before .before .before .before .before .before .before .before .pre)
-
-mul-rows : tie.Need-mul-rows Inv-loop μ-loop Inv-lines μ-lines
-mul-rows c = let n = one-line (c .before .before) .0 (sym (c .before .before .is-task .ensures) ∙ c .before .if1 .taken) .1 in omega arith
-
-array-set-from-rows : tie.Need-array-set-from-rows Inv-loop μ-loop Inv-lines μ-lines
-array-set-from-rows c = let n = one-line (c .before .before) .0 (sym (c .before .before .is-task .ensures) ∙ c .before .if1 .taken) .1 in omega arith
+add-number : tie.Need-add-number Inv-loop μ-loop Inv-lines μ-lines
+add-number c =
+    let o = outer (c .before .before .before .before .before .before .before .before .before .before .before .before) in
+    omega (arith, o .lines .inv .2 .number, o .lines .inv .2 .inside, start o .pre)
 
 lines-less : tie.Need-lines-less Inv-loop μ-loop Inv-lines μ-lines
-lines-less c = omega (arith, one-line (c .before .before) .2, c .before .before .before .before .before .before .before .before .loop .inv .1)
+lines-less c = omega (arith, one-line (c .before .before .before .before))
 
 lines-again : tie.Need-lines-again Inv-loop μ-loop Inv-lines μ-lines
 lines-again c =
-    let l = one-line (c .before .before) in (
-      omega (arith, l .2, c .before .before .before .before .before .before .before .before .before .before .before .lines .inv .0),
-      c .before .before .before .before .before .before .before .before .loop .inv .1,
-      c .before .before .before .before .enum-told3 .given .1,
-      rw (c .row-of .ensures) (l .0 (sym (c .before .before .is-task .ensures) ∙ c .before .if1 .taken) .0),
-    )
-
-lines-less-2 : tie.Need-lines-less-2 Inv-loop μ-loop Inv-lines μ-lines
-lines-less-2 c = omega (arith, one-line (c .before) .2, c .before .before .before .before .before .before .before .loop .inv .1)
-
-lines-again-2 : tie.Need-lines-again-2 Inv-loop μ-loop Inv-lines μ-lines
-lines-again-2 c =
-    let l = one-line (c .before) in (
-      omega (arith, l .2, c .before .before .before .before .before .before .before .before .before .before .lines .inv .0),
-      c .before .before .before .before .before .before .before .loop .inv .1,
-      c .before .before .before .enum-told3 .given .1,
-      l .1 (sym (c .before .is-task .ensures) ∙ c .if1 .left),
-    )
+    let k = c .before .before .before .before in
+    let j = k .before .before .before .before in
+    (j .before .before .before .before .loop .inv .0, j .enum-told3 .given .1, one-line k .1)
 
 enum-known-fault : tie.Need-enum-known-fault Inv-loop μ-loop Inv-lines μ-lines
 enum-known-fault c = search needs
@@ -181,8 +181,18 @@ enum-known-fault c = search needs
 refused-requires : tie.Need-refused-requires Inv-loop μ-loop Inv-lines μ-lines
 refused-requires c κs = search needs
 
+same-length : tie.Need-same-length Inv-loop μ-loop Inv-lines μ-lines
+same-length c = tasks-length (c .before .before .before .before .before .lines .inv .2 .rows)
+
+same-length-2 : tie.Need-same-length-2 Inv-loop μ-loop Inv-lines μ-lines
+same-length-2 c = orders-length (c .before .before .before .before .before .lines .inv .2 .lines)
+
 returns : tie.Need-returns Inv-loop μ-loop Inv-lines μ-lines
-returns c = gives-refused _ _ _ _ (left (c .before .before .before .before) .1 (c .before .before .fault .given .0 .0) (c .before .before .fault .given .1)) (c .refused .ensures)
+returns c =
+    let o = c .before .before .before .before .before in
+    let f = c .before .before .fault .given in
+    let why = left (c .before .before .before .before) .1 (f .0 .0) (f .1) in
+    gives-refused (o .lines .inv .2) (start o .pre) (f .0 .0) why (c .refused .ensures)
 
 enum-told-4 : tie.Need-enum-told-4 Inv-loop μ-loop Inv-lines μ-lines
 enum-told-4 c = search needs
@@ -190,11 +200,29 @@ enum-told-4 c = search needs
 refused-requires-2 : tie.Need-refused-requires-2 Inv-loop μ-loop Inv-lines μ-lines
 refused-requires-2 c κs = search needs
 
+same-length-3 : tie.Need-same-length-3 Inv-loop μ-loop Inv-lines μ-lines
+same-length-3 c = tasks-length (c .before .before .before .before .before .before .lines .inv .2 .rows)
+
+same-length-4 : tie.Need-same-length-4 Inv-loop μ-loop Inv-lines μ-lines
+same-length-4 c = orders-length (c .before .before .before .before .before .before .lines .inv .2 .lines)
+
 returns-2 : tie.Need-returns-2 Inv-loop μ-loop Inv-lines μ-lines
-returns-2 c = gives-refused _ _ _ _ (no-workers _ _ _ _ _ (c .before .before .before .before .before .before .lines .inv .3) (left (c .before .before .before .before .before) .0 (c .before .before .before .enum-told4 .given .1)) (c .before .if2 .taken)) (c .refused2 .ensures)
+returns-2 c =
+    let o = c .before .before .before .before .before .before in
+    let read = left (c .before .before .before .before .before) .0 (c .before .before .before .enum-told4 .given .1) in
+    gives-misplaced (o .lines .inv .2) (start o .pre) read (c .before .if1 .taken) (c .refused2 .ensures)
+
+same-length-5 : tie.Need-same-length-5 Inv-loop μ-loop Inv-lines μ-lines
+same-length-5 c = tasks-length (c .before .before .before .before .before .lines .inv .2 .rows)
+
+same-length-6 : tie.Need-same-length-6 Inv-loop μ-loop Inv-lines μ-lines
+same-length-6 c = orders-length (c .before .before .before .before .before .lines .inv .2 .lines)
 
 returns-3 : tie.Need-returns-3 Inv-loop μ-loop Inv-lines μ-lines
-returns-3 c = whole-text _ _ _ _ _ (c .before .before .before .before .before .lines .inv .3) (left (c .before .before .before .before) .0 (c .before .before .enum-told4 .given .1)) _ (c .if2 .left) refl
+returns-3 c =
+    let o = c .before .before .before .before .before in
+    let read = left (c .before .before .before .before) .0 (c .before .before .enum-told4 .given .1) in
+    gives-accepted (o .lines .inv .2) (start o .pre) read (c .if1 .left)
 
 pub read-lines-spec : {M : Type 1} → statement M
 read-lines-spec =
@@ -204,34 +232,37 @@ read-lines-spec =
     μ-loop
     Inv-lines
     μ-lines
-    empty-row-requires
     no-lines-requires
     lines-holds
-    fresh-line-requires
+    slice-aggregate-read-line
+    read-line-requires
+    no-accesses-requires
     loop-holds
-    next-field-requires
+    read-access-requires
     enum-told
-    enum-known-field
-    with-item-requires
+    enum-known-access
+    slice-aggregate-with-access
+    with-access-requires
     loop-less
     loop-again
     judge-requires
     enum-told-2
     enum-told-3
-    plus-line-requires
-    add-line
-    is-task-requires
-    row-of-requires
-    mul-rows
-    array-set-from-rows
+    slice-aggregate-keep
+    keep-requires
+    add-number
     lines-less
     lines-again
-    lines-less-2
-    lines-again-2
     enum-known-fault
     refused-requires
+    same-length
+    same-length-2
     returns
     enum-told-4
     refused-requires-2
+    same-length-3
+    same-length-4
     returns-2
+    same-length-5
+    same-length-6
     returns-3)

@@ -53,31 +53,6 @@ mul-place c = search needs
 slice-read-place : tie.Need-slice-read-place
 slice-read-place c = search needs
 
-drain-step-requires : tie.Need-drain-step-requires
-drain-step-requires c κs =
-    let here = c .before .before in
-    let s = here .before .before .before .before .before .before .before .before .before .before .before in
-    let x = s .args in
-    let (setup, state, long, holds, fit) = s .pre .1 in
-    let place = share-at (x .store .now) (x .w) placeAt (omega arith) in
-    let few = rw place at (own-place (counted-able s refl)) in (
-      (s .pre .0, workers-few fit, rw place (drains-there _ (here .if1 .taken) few)),
-      (given s, setup, picked state, counted-long long, counted-holds holds, fit),
-    )
-
-same-length : tie.Need-same-length
-same-length c = search needs
-
-same-length-2 : tie.Need-same-length-2
-same-length-2 c = search needs
-
-returns : tie.Need-returns
-returns c =
-    let done = c .before .before .before .before in
-    let s = done .before .before .before .before .before .before .before .before .before .before .before .before .before .before in
-    let d = done .drain-step in
-    (λ k u h f. acted-holds k u (s .args .w) (d .ensures .0 (given s) k (picked u) (counted-holds h) f), d .ensures .1)
-
 mul-step-own : tie.Need-mul-step-own
 mul-step-own c = search needs
 
@@ -98,7 +73,13 @@ step-own-requires c κs =
     let store = s .args .store .now in
     let w = s .args .w in
     let lent = share-lent store w (workers-few fit) (s .pre .0) in
-    (counted-able s (sym lent), rw (lent, share-at store w placeAt (omega arith)) (drains-not _ (here .if1 .left)))
+    (counted-able s (sym lent), rw (lent, share-at store w placeAt (omega arith)) (drains-not _ (here .if1 .taken)))
+
+same-length : tie.Need-same-length
+same-length c = search needs
+
+same-length-2 : tie.Need-same-length-2
+same-length-2 c = search needs
 
 same-length-3 : tie.Need-same-length-3
 same-length-3 c = search needs
@@ -118,14 +99,8 @@ same-length-7 c = search needs
 same-length-8 : tie.Need-same-length-8
 same-length-8 c = search needs
 
-same-length-9 : tie.Need-same-length-9
-same-length-9 c = search needs
-
-same-length-10 : tie.Need-same-length-10
-same-length-10 c = search needs
-
-returns-2 : tie.Need-returns-2
-returns-2 c =
+returns : tie.Need-returns
+returns c =
     let done = c .before .before .before .before .before .before .before .before .before .before .before .before .before .before in
     let asked = done .before .before .before .before .before .before .before .before .before in
     let s = asked .before .before .before .before .before .before .before .before .before .before .before in
@@ -143,6 +118,31 @@ returns-2 c =
       returned-later store w few (s .pre .0) own back,
     )
 
+drain-step-requires : tie.Need-drain-step-requires
+drain-step-requires c κs =
+    let here = c .before .before in
+    let s = here .before .before .before .before .before .before .before .before .before .before .before in
+    let x = s .args in
+    let (setup, state, long, holds, fit) = s .pre .1 in
+    let place = share-at (x .store .now) (x .w) placeAt (omega arith) in
+    let few = rw place at (own-place (counted-able s refl)) in (
+      (s .pre .0, workers-few fit, rw place (drains-there _ (here .if1 .left) few)),
+      (given s, setup, picked state, counted-long long, counted-holds holds, fit),
+    )
+
+same-length-9 : tie.Need-same-length-9
+same-length-9 c = search needs
+
+same-length-10 : tie.Need-same-length-10
+same-length-10 c = search needs
+
+returns-2 : tie.Need-returns-2
+returns-2 c =
+    let done = c .before .before .before .before in
+    let s = done .before .before .before .before .before .before .before .before .before .before .before .before .before .before in
+    let d = done .drain-step in
+    (λ k u h f. acted-holds k u (s .args .w) (d .ensures .0 (given s) k (picked u) (counted-holds h) f), d .ensures .1)
+
 pub pick-spec : {M : Type 1} → statement M
 pick-spec =
     tie.close
@@ -153,21 +153,21 @@ pick-spec =
     add-place
     mul-place
     slice-read-place
-    drain-step-requires
-    same-length
-    same-length-2
-    returns
     mul-step-own
     sub-step-own
     part-step-own-start
     part-step-own-end
     step-own-requires
+    same-length
+    same-length-2
     same-length-3
     same-length-4
     same-length-5
     same-length-6
     same-length-7
     same-length-8
+    returns
+    drain-step-requires
     same-length-9
     same-length-10
     returns-2)

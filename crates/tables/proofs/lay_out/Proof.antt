@@ -20,9 +20,10 @@ same-length-3 : tie.Need-same-length-3
 same-length-3 c = search needs
 
 returns : tie.Need-returns
-returns c text p e says =
-    let (rows, labels, count) = c .before .before .before .before .before .before .before .before .lay-plan-tasks .ensures text p e says in
-    (rows, c .before .before .lay-plan-accesses .ensures text p e says count, labels)
+returns c text p e size has =
+    let laid = c .before .before .before .before .before .before .before .before .lay-plan-tasks in
+    let (rows, labels, total) = laid .ensures text p e size has in
+    (rows, c .before .before .lay-plan-accesses .ensures text p e size has total, labels)
 
 pub lay-out-spec : {M : Type 1} → statement M
 lay-out-spec =

@@ -13,7 +13,7 @@ use borrow.Author.Tests.{eqb-true, eqb-false, ltb-true, ltb-false, not-true, not
 use Rattle.runs.specs.Update.{same, by-order}
 use Rattle.runs.specs.Every.{every}
 use Rattle.plan.specs.Plan.{Access, Task}
-use Rattle.plan.specs.Reading.{repeats}
+use Rattle.plan.specs.Line.{repeats}
 use Rattle.plan.specs.Accepted.{Each, every-each}
 use Rattle.runs.specs.Searches.{lastBelow, firstFrom}
 use Rattle.tasks.specs.Accesses.{noAccess, Distinct, accesses, taskOf, taskAt, accessAt, first, reader}

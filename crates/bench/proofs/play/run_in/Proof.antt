@@ -13,36 +13,38 @@ use Rattle.bench.proofs.play.run_in.Tie as tie
 set-up-requires : tie.Need-set-up-requires
 set-up-requires c κs =
     let laying = c .before .before .before .before .before .before .before .before .before in
-    let start = laying .before .before .before .before .before .before .before .before .before in
+    let start = laying .before .before .before .before .before .before .before .before .before .before .before in
     let lengths = start .pre .1 .0 in
     let (p, e, says) = start .pre .1 .1 in
-    ((lengths .5, lengths .6, lengths .7), (_, p, e, says))
+    ((lengths .5, lengths .6, lengths .7), (_, p, e, says .tasks))
 
 play-orders-requires : tie.Need-play-orders-requires
 play-orders-requires c κs =
     let playing = c .before .before .before .before .before .before .before .before .before .before .before in
     let laid = playing .before .before .before .before .before .before .before .before .before .before .before in
     let laying = laid .before .before .before .before .before .before .before .before .before .before in
-    let start = laying .before .before .before .before .before .before .before .before .before in
+    let start = laying .before .before .before .before .before .before .before .before .before .before .before in
     let lengths = start .pre .1 .0 in
     let (p, e, says) = start .pre .1 .1 in
-    let made = laid .set-up .ensures _ p _ _ e says (start .pre .0 .0) (start .pre .0 .1) in
+    let made = laid .set-up .ensures _ p _ _ e (says .tasks) (start .pre .0 .0) (start .pre .0 .1) in
     record {
       room = start .pre .0 .0;
       long = record {
-        wait = laid .set-up .kept .1 .0 ∙ lengths .0;
-        registrations = laid .set-up .kept .1 .1 .0 ∙ lengths .1;
-        tickets = laid .set-up .kept .1 .1 .1 .0 ∙ lengths .2;
-        cells = laid .set-up .kept .1 .1 .1 .1 .0 ∙ lengths .3;
+        wait = laid .set-up .kept .1 .1 .1 .0 ∙ lengths .0;
+        registrations = laid .set-up .kept .1 .1 .1 .1 .0 ∙ lengths .1;
+        tickets = laid .set-up .kept .1 .1 .1 .1 .1 .0 ∙ lengths .2;
+        cells = laid .set-up .kept .1 .1 .1 .1 .1 .1 .0 ∙ lengths .3;
         ready = lengths .4;
         tasks = record {
-          rows = laid .set-up .kept .1 .1 .1 .1 .1 .0 ∙ lengths .5;
-          accesses = laid .set-up .kept .1 .1 .1 .1 .1 .1 .0 ∙ lengths .6;
+          rows = laid .set-up .kept .1 .1 .1 .1 .1 .1 .1 .0 ∙ lengths .5;
+          accesses = laid .set-up .kept .1 .1 .1 .1 .1 .1 .1 .1 .0 ∙ lengths .6;
         };
       };
+      text = _;
       p = p;
       accepts = e;
-      from = says .orders;
+      count = says .count;
+      kept = says .orders;
       holds = made .0;
     }
 
@@ -53,15 +55,15 @@ answer-of-requires c κs =
     let playing = end .before .before .before .before .before .before .before .before .before .before .before .before in
     let laid = playing .before .before .before .before .before .before .before .before .before .before .before in
     let laying = laid .before .before .before .before .before .before .before .before .before .before in
-    let start = laying .before .before .before .before .before .before .before .before .before in
+    let start = laying .before .before .before .before .before .before .before .before .before .before .before in
     let lengths = start .pre .1 .0 in
     let (p, e, says) = start .pre .1 .1 in
-    let made = laid .set-up .ensures _ p _ _ e says (start .pre .0 .0) (start .pre .0 .1) in
-    let held = end .play-orders .ensures .0 p e (says .orders) (made .0) in (
+    let made = laid .set-up .ensures _ p _ _ e (says .tasks) (start .pre .0 .0) (start .pre .0 .1) in
+    let held = end .play-orders .ensures .0 _ p e (says .count) (says .orders) (made .0) in (
       (
         omega (arith, end .play-orders .kept .1 .1 .1 .1 .1 .1 .1 .1 .1 .1 .1 .0, start .pre .0 .0),
-        end .play-orders .kept .1 .1 .1 .1 .1 .1 .1 .1 .1 .0 ∙ laid .set-up .kept .1 .1 .1 .1 .1 .0 ∙ lengths .5,
-        laid .set-up .kept .1 .1 .1 .1 .1 .1 .1 .0 ∙ lengths .7,
+        end .play-orders .kept .1 .1 .1 .1 .1 .1 .1 .1 .1 .0 ∙ laid .set-up .kept .1 .1 .1 .1 .1 .1 .1 .0 ∙ lengths .5,
+        laid .set-up .kept .1 .1 .1 .1 .1 .1 .1 .1 .1 .0 ∙ lengths .7,
       ),
       (memory (end .play-orders .result) _ _ _ _ _ [] _, setupOf p, reached p (start .args .limit), sized _ p e, made .1, held),
     )
@@ -72,7 +74,7 @@ same-length c =
     let end = answering .before .before .before .before .before .before .before .before .before .before .before in
     let playing = end .before .before .before .before .before .before .before .before .before .before .before .before in
     let laid = playing .before .before .before .before .before .before .before .before .before .before .before in
-    end .play-orders .kept .1 .1 .1 .1 .0 ∙ laid .set-up .kept .1 .0
+    end .play-orders .kept .1 .1 .1 .1 .0 ∙ laid .set-up .kept .1 .1 .1 .0
 
 same-length-2 : tie.Need-same-length-2
 same-length-2 c =
@@ -80,7 +82,7 @@ same-length-2 c =
     let end = answering .before .before .before .before .before .before .before .before .before .before .before in
     let playing = end .before .before .before .before .before .before .before .before .before .before .before .before in
     let laid = playing .before .before .before .before .before .before .before .before .before .before .before in
-    end .play-orders .kept .1 .1 .1 .1 .1 .0 ∙ laid .set-up .kept .1 .1 .0
+    end .play-orders .kept .1 .1 .1 .1 .1 .0 ∙ laid .set-up .kept .1 .1 .1 .1 .0
 
 same-length-3 : tie.Need-same-length-3
 same-length-3 c =
@@ -88,7 +90,7 @@ same-length-3 c =
     let end = answering .before .before .before .before .before .before .before .before .before .before .before in
     let playing = end .before .before .before .before .before .before .before .before .before .before .before .before in
     let laid = playing .before .before .before .before .before .before .before .before .before .before .before in
-    end .play-orders .kept .1 .1 .1 .1 .1 .1 .0 ∙ laid .set-up .kept .1 .1 .1 .0
+    end .play-orders .kept .1 .1 .1 .1 .1 .1 .0 ∙ laid .set-up .kept .1 .1 .1 .1 .1 .0
 
 same-length-4 : tie.Need-same-length-4
 same-length-4 c =
@@ -96,7 +98,7 @@ same-length-4 c =
     let end = answering .before .before .before .before .before .before .before .before .before .before .before in
     let playing = end .before .before .before .before .before .before .before .before .before .before .before .before in
     let laid = playing .before .before .before .before .before .before .before .before .before .before .before in
-    end .play-orders .kept .1 .1 .1 .1 .1 .1 .1 .0 ∙ laid .set-up .kept .1 .1 .1 .1 .0
+    end .play-orders .kept .1 .1 .1 .1 .1 .1 .1 .0 ∙ laid .set-up .kept .1 .1 .1 .1 .1 .1 .0
 
 same-length-5 : tie.Need-same-length-5
 same-length-5 c = search needs
@@ -107,7 +109,7 @@ same-length-6 c =
     let end = answering .before .before .before .before .before .before .before .before .before .before .before in
     let playing = end .before .before .before .before .before .before .before .before .before .before .before .before in
     let laid = playing .before .before .before .before .before .before .before .before .before .before .before in
-    end .play-orders .kept .1 .1 .1 .1 .1 .1 .1 .1 .1 .0 ∙ laid .set-up .kept .1 .1 .1 .1 .1 .0
+    end .play-orders .kept .1 .1 .1 .1 .1 .1 .1 .1 .1 .0 ∙ laid .set-up .kept .1 .1 .1 .1 .1 .1 .1 .0
 
 same-length-7 : tie.Need-same-length-7
 same-length-7 c =
@@ -115,7 +117,7 @@ same-length-7 c =
     let end = answering .before .before .before .before .before .before .before .before .before .before .before in
     let playing = end .before .before .before .before .before .before .before .before .before .before .before .before in
     let laid = playing .before .before .before .before .before .before .before .before .before .before .before in
-    end .play-orders .kept .1 .1 .1 .1 .1 .1 .1 .1 .1 .1 .0 ∙ laid .set-up .kept .1 .1 .1 .1 .1 .1 .0
+    end .play-orders .kept .1 .1 .1 .1 .1 .1 .1 .1 .1 .1 .0 ∙ laid .set-up .kept .1 .1 .1 .1 .1 .1 .1 .1 .0
 
 same-length-8 : tie.Need-same-length-8
 same-length-8 c =
@@ -123,7 +125,7 @@ same-length-8 c =
     let end = answering .before .before .before .before .before .before .before .before .before .before .before in
     let playing = end .before .before .before .before .before .before .before .before .before .before .before .before in
     let laid = playing .before .before .before .before .before .before .before .before .before .before .before in
-    laid .set-up .kept .1 .1 .1 .1 .1 .1 .1 .0
+    laid .set-up .kept .1 .1 .1 .1 .1 .1 .1 .1 .1 .0
 
 same-length-9 : tie.Need-same-length-9
 same-length-9 c = search needs
@@ -138,10 +140,10 @@ returns c =
     let playing = end .before .before .before .before .before .before .before .before .before .before .before .before in
     let laid = playing .before .before .before .before .before .before .before .before .before .before .before in
     let laying = laid .before .before .before .before .before .before .before .before .before .before in
-    let start = laying .before .before .before .before .before .before .before .before .before in (
+    let start = laying .before .before .before .before .before .before .before .before .before .before .before in (
       λ p left e says.
-          let made = laid .set-up .ensures _ p _ _ e says (start .pre .0 .0) (start .pre .0 .1) in
-          let held = end .play-orders .ensures .0 p e (says .orders) (made .0) in
+          let made = laid .set-up .ensures _ p _ _ e (says .tasks) (start .pre .0 .0) (start .pre .0 .1) in
+          let held = end .play-orders .ensures .0 _ p e (says .count) (says .orders) (made .0) in
           let m = memory (end .play-orders .result) _ _ _ _ _ [] _ in
           c .before .before .answer-of .ensures m (setupOf p) (reached p (start .args .limit)) _ left (made .1) held,
       end .play-orders .ensures .1,

@@ -1,5 +1,4 @@
--- `plan::field::is_label_byte` meets its contract: by where the byte lies among the three ranges and the hyphen.
--- Assumes nothing.
+-- `plan::field::is_label_byte` meets its contract: by where the byte lies among the three ranges and the hyphen. Assumes nothing.
 use native.Mathlib.Omega.{arith}
 use Rattle.plan.proofs.Fields.{byte-small, byte-large, byte-digit, byte-hyphen, byte-other}
 use Rattle.plan.proofs.field.is_label_byte.Statement.{statement}
@@ -18,16 +17,24 @@ returns-4 : tie.Need-returns-4
 returns-4 c = byte-small (c .before .before .before .before .before .before .before .args .b) (omega arith) (omega arith)
 
 returns-5 : tie.Need-returns-5
-returns-5 c = byte-other (c .before .before .args .b) (λ x y. omega arith) (λ x y. omega arith) (λ x y. omega arith) (λ x. omega arith)
+returns-5 c =
+    let b = c .before .before .args .b in
+    byte-other b (λ x y. omega arith) (λ x y. omega arith) (λ x y. omega arith) (λ x. omega arith)
 
 returns-6 : tie.Need-returns-6
-returns-6 c = byte-other (c .before .before .before .before .args .b) (λ x y. omega arith) (λ x y. omega arith) (λ x y. omega arith) (λ x. omega arith)
+returns-6 c =
+    let b = c .before .before .before .before .args .b in
+    byte-other b (λ x y. omega arith) (λ x y. omega arith) (λ x y. omega arith) (λ x. omega arith)
 
 returns-7 : tie.Need-returns-7
-returns-7 c = byte-other (c .before .before .before .before .before .before .args .b) (λ x y. omega arith) (λ x y. omega arith) (λ x y. omega arith) (λ x. omega arith)
+returns-7 c =
+    let b = c .before .before .before .before .before .before .args .b in
+    byte-other b (λ x y. omega arith) (λ x y. omega arith) (λ x y. omega arith) (λ x. omega arith)
 
 returns-8 : tie.Need-returns-8
-returns-8 c = byte-other (c .before .before .before .before .before .before .before .args .b) (λ x y. omega arith) (λ x y. omega arith) (λ x y. omega arith) (λ x. omega arith)
+returns-8 c =
+    let b = c .before .before .before .before .before .before .before .args .b in
+    byte-other b (λ x y. omega arith) (λ x y. omega arith) (λ x y. omega arith) (λ x. omega arith)
 
 pub is-label-byte-spec : {M : Type 1} → statement M
 is-label-byte-spec =

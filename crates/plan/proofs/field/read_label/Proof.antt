@@ -1,34 +1,38 @@
--- `plan::field::read_label` meets its contract: the bytes from i on come to what the whole field does.
--- Assumes nothing.
-use borrow.Author.Needs.{needs}
-use mathlib.Core.Path.{_≡_, sym, _∙_}
+-- `plan::field::read_label` meets its contract: after the bytes so far, the field at the place comes to what the whole field does. The
+-- measure is what is left of the text. Assumes nothing.
 use Prim.Native.Nat.{_+_, _-_, _≤_}
-use lib.ListN.{length, drop, getD, drop-of-length-le}
-use Rattle.plan.specs.PassFields.{fieldOf, asField, labelItem}
-use Rattle.plan.proofs.Fields.{labelScan, labelTurn, label-at, label-is, label-tab, label-lf, label-no, label-on}
+use mathlib.Core.Path.{_≡_, sym, _∙_}
+use mathlib.Core.Bool.{true}
+use native.Mathlib.Omega.{arith}
+use borrow.Author.Needs.{needs}
+use borrow.Author.Tests.{not-true, not-false}
+use lib.ListN.{length, drop, getD}
+use Rattle.text.specs.Fields.{NONE, fieldOf}
+use Rattle.plan.specs.Line.{isLabelByte}
+use Rattle.plan.specs.PassFields.{asLabel}
+use Rattle.plan.proofs.Fields.{lateLabel, label-whole, label-end, label-within, label-on}
 use Rattle.plan.proofs.field.read_label.Statement.{statement}
 use Rattle.plan.proofs.field.read_label.Tie as tie
 
 abbrev Inv-loop : tie.InvT-loop
-Inv-loop s at i₀ i = (at ≤ i) × (i ≤ length s) × (labelScan at i (drop i s) ≡ asField labelItem at (fieldOf (drop at s)))
+Inv-loop text from at₀ at =
+    (from ≤ at) × (at ≤ length text) × (lateLabel (at - from) at (fieldOf (drop at text)) ≡ asLabel from (fieldOf (drop from text)))
 
 abbrev μ-loop : tie.MeasureT-loop
-μ-loop s at i₀ i = length s - i
+μ-loop text from at₀ at = length text - at
 
 loop-holds : tie.Need-loop-holds Inv-loop μ-loop
-loop-holds c = (search needs, search needs, label-is (c .before .args .at) (drop (c .before .args .at) (c .before .args .s .now)))
+loop-holds c =
+    let start = c .before .args in
+    let from = start .from in
+    let z : from - from ≡ 0 = omega arith in
+    (search needs, search needs, rw z (label-whole from (fieldOf (drop from (start .text .now)))))
 
--- what the byte at i comes to
-at-byte : (c : tie.After-shared-slice-known2 Inv-loop μ-loop)
-    → let i = c .before .before .loop .i in let start = c .before .before .before .before .args in let s = start .s .now in
-    labelTurn (start .at) i (getD s i 0) (labelScan (start .at) (i + 1) (drop (i + 1) s)) ≡ asField labelItem (start .at) (fieldOf (drop (start .at) s))
-at-byte c =
-    let l = c .before .before .loop in
-    let start = c .before .before .before .before .args in
-    sym (label-at (start .at) (l .i) (start .s .now) (search needs)) ∙ l .inv .2
+look-requires : tie.Need-look-requires Inv-loop μ-loop
+look-requires c κs = search needs
 
-shared-slice-read-b : tie.Need-shared-slice-read-b Inv-loop μ-loop
-shared-slice-read-b c = search needs
+is-label-byte-requires : tie.Need-is-label-byte-requires Inv-loop μ-loop
+is-label-byte-requires c κs = search needs
 
 sub-end-label : tie.Need-sub-end-label Inv-loop μ-loop
 sub-end-label c = search needs
@@ -40,38 +44,36 @@ end-label-requires : tie.Need-end-label-requires Inv-loop μ-loop
 end-label-requires c κs = search needs
 
 returns : tie.Need-returns Inv-loop μ-loop
-returns c = c .end-label .ensures ∙ label-tab _ _ _ _ _ (at-byte (c .before .before)) (c .before .if1 .taken)
+returns c =
+    let l = c .before .before .before .before .loop in
+    let start = c .before .before .before .before .before .before .args in
+    let seen = c .before .before .before .look .ensures in
+    let other = sym (c .before .before .is-label-byte .ensures) ∙ not-true _ (c .before .if1 .taken) in
+    c .end-label .ensures ∙ rw seen (label-end (l .at - start .from) (start .text .now) (l .at) (rw seen at other)) ∙ l .inv .2
 
-sub-end-label-2 : tie.Need-sub-end-label-2 Inv-loop μ-loop
-sub-end-label-2 c = search needs
+-- the byte is a label's
+label-byte : (c : tie.Else1 Inv-loop μ-loop)
+    → isLabelByte (getD (c .before .before .before .before .before .args .text .now) (c .before .before .before .loop .at) NONE) ≡ true
+label-byte c = rw (c .before .before .look .ensures) at (sym (c .before .is-label-byte .ensures) ∙ not-false _ (c .if1 .left))
 
-add-end-label-2 : tie.Need-add-end-label-2 Inv-loop μ-loop
-add-end-label-2 c = search needs
-
-end-label-requires-2 : tie.Need-end-label-requires-2 Inv-loop μ-loop
-end-label-requires-2 c κs = search needs
-
-returns-2 : tie.Need-returns-2 Inv-loop μ-loop
-returns-2 c = c .end-label2 .ensures ∙ label-lf _ _ _ _ _ (at-byte (c .before .before .before)) (c .before .before .if1 .left) (c .before .if2 .taken)
-
-is-label-byte-requires : tie.Need-is-label-byte-requires Inv-loop μ-loop
-is-label-byte-requires c κs = search needs
-
-add-i : tie.Need-add-i Inv-loop μ-loop
-add-i c = search needs
+add-at : tie.Need-add-at Inv-loop μ-loop
+add-at c = search needs
 
 loop-less : tie.Need-loop-less Inv-loop μ-loop
-loop-less c = search needs
+loop-less c =
+    let start = c .before .before .before .before .before .args in
+    omega (arith, label-within (start .text .now) (c .before .before .before .loop .at) (label-byte c))
 
 loop-again : tie.Need-loop-again Inv-loop μ-loop
-loop-again c = (search needs, search needs, label-on _ _ _ _ _ (at-byte (c .before .before .before .before)) (c .before .before .before .if1 .left) (c .before .before .if2 .left) (sym (c .before .is-label-byte .ensures) ∙ c .if3 .taken))
-
-returns-3 : tie.Need-returns-3 Inv-loop μ-loop
-returns-3 c = label-no _ _ _ _ _ (at-byte (c .before .before .before .before)) (c .before .before .before .if1 .left) (c .before .before .if2 .left) (sym (c .before .is-label-byte .ensures) ∙ c .if3 .left)
-
-returns-4 : tie.Need-returns-4 Inv-loop μ-loop
-unfolding labelScan
-returns-4 c = rw (drop-of-length-le (c .before .before .before .args .s .now) (c .loop-test .left)) at (c .before .loop .inv .2)
+loop-again c =
+    let l = c .before .before .before .loop in
+    let start = c .before .before .before .before .before .args in
+    let text = start .text .now in
+    let q : l .at + 1 - start .from ≡ l .at - start .from + 1 = omega arith in (
+      search needs,
+      omega (arith, label-within text (l .at) (label-byte c)),
+      rw q (label-on (l .at - start .from) text (l .at) (label-byte c)) ∙ l .inv .2,
+    )
 
 pub read-label-spec : {M : Type 1} → statement M
 read-label-spec =
@@ -80,18 +82,12 @@ read-label-spec =
     Inv-loop
     μ-loop
     loop-holds
-    shared-slice-read-b
+    look-requires
+    is-label-byte-requires
     sub-end-label
     add-end-label
     end-label-requires
     returns
-    sub-end-label-2
-    add-end-label-2
-    end-label-requires-2
-    returns-2
-    is-label-byte-requires
-    add-i
+    add-at
     loop-less
-    loop-again
-    returns-3
-    returns-4)
+    loop-again)

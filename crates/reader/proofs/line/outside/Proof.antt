@@ -1,14 +1,17 @@
--- `reader::line::outside` meets its contract: by the lower bound.
--- Assumes nothing.
-use Rattle.plan.proofs.Fields.{outside-low, outside-rest}
+-- `reader::line::outside` meets its contract: by the lower bound. Assumes nothing.
+use native.Mathlib.Omega.{arith}
+use borrow.Author.Tests.{le-leb, lt-leb}
+use Rattle.reader.proofs.Wholes.{above-below}
 use Rattle.reader.proofs.line.outside.Statement.{statement}
 use Rattle.reader.proofs.line.outside.Tie as tie
 
 returns : tie.Need-returns
-returns c = simp (outside-low (c .before .args .low) (c .before .args .high) (c .before .args .n) (c .if1 .taken))
+returns c = simp (lt-leb (c .before .args .low) (c .before .args .n) (omega arith))
 
 returns-2 : tie.Need-returns-2
-returns-2 c = outside-rest _ _ _ (c .if1 .left)
+returns-2 c =
+    let a = c .before .args in
+    simp (le-leb (a .low) (a .n) (omega arith)) (above-below (a .high) (a .n))
 
 pub outside-spec : {M : Type 1} → statement M
 outside-spec = tie.close (tie.spec returns returns-2)

@@ -15,21 +15,20 @@ use Rattle.tables.proofs.access.lay_accesses.Statement.{statement}
 use Rattle.tables.proofs.access.lay_accesses.Tie as tie
 
 abbrev Inv-loop : tie.InvT-loop
-Inv-loop accesses₀ n task at total touches k₀ accesses k =
+Inv-loop accesses₀ plan n task at total k₀ accesses k =
     (k ≤ n) × (length accesses ≡ layout.accessRows)
-    × ((ts : List Task) → Total ts ≡ total → AreAccesses ts task at n touches → Laid ts at accesses₀ → Laid ts (at + k) accesses)
+    × ((ts : List Task) → Total ts ≡ total → AreAccesses ts task at n plan → Laid ts at accesses₀ → Laid ts (at + k) accesses)
 
 abbrev μ-loop : tie.MeasureT-loop
-μ-loop accesses₀ n task at total touches k₀ accesses k = n - k
+μ-loop accesses₀ plan n task at total k₀ accesses k = n - k
 
 loop-holds : tie.Need-loop-holds Inv-loop μ-loop
-loop-holds c = (omega arith, c .before .pre .0, λ ts e h l. let z : c .before .args .at + 0 ≡ c .before .args .at = omega arith in rw z l)
+loop-holds c =
+    let s = c .before .before in
+    (omega arith, s .pre .0, λ ts e h l. let z : s .args .at + 0 ≡ s .args .at = omega arith in rw z l)
 
-mul-touch : tie.Need-mul-touch Inv-loop μ-loop
-mul-touch c = omega arith
-
-array-copy-out-touch : tie.Need-array-copy-out-touch Inv-loop μ-loop
-array-copy-out-touch c = omega arith
+touch-at-requires : tie.Need-touch-at-requires Inv-loop μ-loop
+touch-at-requires c κs = omega arith
 
 add-chain-access : tie.Need-add-chain-access Inv-loop μ-loop
 add-chain-access c = omega arith
@@ -49,25 +48,27 @@ loop-less c = omega arith
 loop-again : tie.Need-loop-again Inv-loop μ-loop
 loop-again c =
     let turn = c .before .before .before .before .before .before in
-    let a = turn .before .before .before .args in
+    let a = turn .before .before .before .before .args in
     let x = turn .before .loop in
     let chained = c .before .before .chain-access in
     let reads = c .before .before .before .reads-of in
+    let touch = c .before .before .before .before .before .touch-at in
     let more : a .at + (x .k + 1) ≡ suc (a .at + x .k) = omega arith in (
       omega arith,
       chained .kept .0 ∙ x .inv .1,
       λ ts e h l.
-          let access = one-access ts (a .task) (a .at) (a .n) (x .k) (a .t2) h (turn .loop-test .taken) in
+          let access =
+          one-access ts (a .task) (a .at) (a .n) (x .k) (a .plan .now) (touch .result) (touch .ensures) h (turn .loop-test .taken) in
           rw more (chained .ensures ts e (rw (reads .ensures) access) (x .inv .2 ts e h l)),
     )
 
 same-length : tie.Need-same-length Inv-loop μ-loop
-same-length c = c .before .loop .inv .1 ∙ sym (c .before .before .before .pre .0)
+same-length c = c .before .loop .inv .1 ∙ sym (c .before .before .before .before .pre .0)
 
 returns : tie.Need-returns Inv-loop μ-loop
 returns c =
     let x = c .before .loop in
-    let all : x .k ≡ c .before .before .before .args .n = omega arith in
+    let all : x .k ≡ c .before .before .before .before .args .n = omega arith in
     λ ts e h l. rw all at (x .inv .2 ts e h l)
 
 pub lay-accesses-spec : {M : Type 1} → statement M
@@ -77,8 +78,7 @@ lay-accesses-spec =
     Inv-loop
     μ-loop
     loop-holds
-    mul-touch
-    array-copy-out-touch
+    touch-at-requires
     add-chain-access
     reads-of-requires
     chain-access-requires

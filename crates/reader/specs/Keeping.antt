@@ -1,0 +1,47 @@
+-- The code's view of a line that has ended: its fault, and what is kept of it.
+use Prim.Native.Nat.{ℕ, _+_, _*_}
+use mathlib.Core.Path.{_≡_}
+use mathlib.Core.List.{List, [], _∷_}
+use lib.Seq.{sets}
+use Rattle.kept.specs.Layout as layout
+use Rattle.reader.specs.declared.accesses.Accesses.{Accesses}
+use Rattle.reader.specs.declared.line.Fault.{Fault}
+use Rattle.reader.specs.declared.line.Kind.{Kind}
+use Rattle.reader.specs.declared.line.Kind.the-variants as kinds
+use Rattle.reader.specs.declared.line.Line.{Line}
+use Rattle.reader.specs.declared.line.Sofar.{Sofar}
+use Rattle.reader.specs.Accesses.{taskFault}
+use Rattle.reader.specs.Verdict.{Lent}
+
+-- the fault of a line, by its kind: a task's is task number n
+abbrev pub faultBy : Kind → Fault → Accesses → ℕ → Fault
+faultBy kinds.Workers fault a n = fault
+faultBy kinds.Task fault a n = taskFault fault a n
+faultBy kinds.Order fault a n = fault
+
+abbrev pub judged : Line → Accesses → ℕ → Fault
+judged line a n = faultBy (line .kind) (line .fault) a n
+
+-- the counts with one line more: a W line's number is the workers
+abbrev pub counting : Kind → ℕ → Sofar → Sofar
+counting kinds.Workers n s = record { workers = n; tasks = s .tasks; orders = s .orders }
+counting kinds.Task n s = record { workers = s .workers; tasks = s .tasks + 1; orders = s .orders }
+counting kinds.Order n s = record { workers = s .workers; tasks = s .tasks; orders = s .orders + 1 }
+
+-- what is lent, with the row of a task that is number i
+abbrev pub rowsWith : Kind → ℕ → List ℕ → List ℕ → List ℕ
+rowsWith kinds.Workers i row rows = rows
+rowsWith kinds.Task i row rows = sets rows (layout.taskRow * i) row
+rowsWith kinds.Order i row rows = rows
+
+-- and with the numbers of an order line
+abbrev pub ordersWith : Kind → ℕ → List ℕ → List ℕ → List ℕ
+ordersWith kinds.Workers i order orders = orders
+ordersWith kinds.Task i order orders = orders
+ordersWith kinds.Order i order orders = sets orders (layout.orderRow * i) order
+
+-- a line without fault is kept and counted
+pub record Keeps (s : Sofar) (line : Line) (row : List ℕ) (before after : Lent) (r : Sofar) : Type 0 where
+  pub counts : r ≡ counting (line .kind) (line .first) s
+  pub rows : after .rows ≡ rowsWith (line .kind) (s .tasks) row (before .rows)
+  pub lines : after .lines ≡ ordersWith (line .kind) (s .orders) (line .first ∷ line .second ∷ []) (before .lines)

@@ -1,0 +1,256 @@
+-- Laws of fields: where the first one stands, one field more of a line, and the line that they are.
+use Prim.Native.Nat.{ℕ, suc, _+_, _≤_, _<_}
+use mathlib.Core.Path.{_≡_, refl, sym, ap, _∙_}
+use mathlib.Core.Bool.{Bool, true, false, cond}
+use mathlib.Core.List.{List, [], _∷_, _++_, append-assoc}
+use mathlib.Core.Logic.{_≢_, ⊎-elim}
+use native.Mathlib.Omega.{arith}
+use native.Mathlib.Nat.{add-zero}
+use lib.Dec.{eqb}
+use lib.ListN.{length, take, drop, getD, length-append, length-drop, drop-of-length-le, List·getD-eq-default}
+use lib.Seq.{drop-drop, getD-drop, take-append-seam, drop-append-add}
+use borrow.Author.Tests.{ne-eqb, eqb-true}
+use Rattle.runs.specs.Update.{order}
+use Rattle.text.specs.Basics.{ways, never, byte-at}
+use Rattle.text.specs.Text.{tab, lineFeed, onFirst, split}
+use Rattle.text.specs.Fields.{NONE, Cut, endless, cut, cutAfter, fieldOf, answer}
+use Rattle.text.specs.Fields.{First, unended, first, behind, begun, firstLine, goesOn, Fields}
+
+-- ---- the first field from a place on, by the byte there
+
+module _ (text : List ℕ) (at : ℕ) where
+  -- a byte is seen in the text only
+  pub byte-within : getD text at NONE < NONE → at < length text
+  byte-within h =
+      ⊎-elim (λ (w : at < length text). w) (λ (w : length text ≤ at). absurd (omega (arith, List·getD-eq-default text NONE w)))
+      (order at (length text))
+
+  pub field-past : length text ≤ at → fieldOf (drop at text) ≡ endless
+  unfolding fieldOf
+  field-past h = rw (drop-of-length-le text h)
+
+  pub field-tab : getD text at NONE ≡ tab → fieldOf (drop at text) ≡ cut [] true (drop (at + 1) text)
+  unfolding fieldOf
+  field-tab e = rw (byte-at text at NONE (byte-within (omega arith)), e)
+
+  pub field-line-feed : getD text at NONE ≡ lineFeed → fieldOf (drop at text) ≡ cut [] false (drop (at + 1) text)
+  unfolding fieldOf
+  field-line-feed e = rw (byte-at text at NONE (byte-within (omega arith)), e)
+
+  pub field-on : at < length text → getD text at NONE ≢ tab → getD text at NONE ≢ lineFeed
+      → fieldOf (drop at text) ≡ cutAfter (getD text at NONE) (fieldOf (drop (at + 1) text))
+  unfolding fieldOf
+  field-on h t l = rw (byte-at text at NONE h) (simp (ne-eqb (getD text at NONE) tab t, ne-eqb (getD text at NONE) lineFeed l))
+
+-- ---- what a reader answers of that field, by the byte there
+
+answer-cut : {A : Type 0} (bad : A) (go next : List ℕ → ℕ → Bool → A) (at b : ℕ)
+    → ((x : List ℕ) (n : ℕ) (m : Bool) → next x n m ≡ go (b ∷ x) n m) → (k : Cut)
+    → answer bad next (at + 1) k ≡ answer bad go at (cutAfter b k)
+unfolding answer
+answer-cut bad go next at b h endless = refl
+answer-cut bad go next at b h (cut x more rest) =
+    let q : at + 1 + (length x + 1) ≡ at + (suc (length x) + 1) = omega arith in
+    rw q (h x (at + (suc (length x) + 1)) more)
+
+answer-same : {A : Type 0} (bad : A) (at : ℕ) (k : Cut) → bad ≡ answer bad (λ x n m. bad) at k
+unfolding answer
+answer-same bad at endless = refl
+answer-same bad at (cut x more rest) = refl
+
+module _ {A : Type 0} (bad : A) (go : List ℕ → ℕ → Bool → A) (text : List ℕ) (at : ℕ) where
+  pub answer-tab : getD text at NONE ≡ tab → go [] (at + 1) true ≡ answer bad go at (fieldOf (drop at text))
+  unfolding answer
+  answer-tab e = rw (field-tab text at e)
+
+  pub answer-line-feed : getD text at NONE ≡ lineFeed → go [] (at + 1) false ≡ answer bad go at (fieldOf (drop at text))
+  unfolding answer
+  answer-line-feed e = rw (field-line-feed text at e)
+
+  module _ (t : getD text at NONE ≢ tab) (l : getD text at NONE ≢ lineFeed) where
+    -- the byte is one of the field: it is answered by the rest of it
+    pub answer-on : at < length text → (next : List ℕ → ℕ → Bool → A)
+        → ((x : List ℕ) (n : ℕ) (m : Bool) → next x n m ≡ go (getD text at NONE ∷ x) n m)
+        → answer bad next (at + 1) (fieldOf (drop (at + 1) text)) ≡ answer bad go at (fieldOf (drop at text))
+    answer-on here next h =
+        answer-cut bad go next at (getD text at NONE) h (fieldOf (drop (at + 1) text))
+        ∙ ap (answer bad go at) (sym (field-on text at here t l))
+
+    -- no field begins so
+    pub answer-bad : ((x : List ℕ) (n : ℕ) (m : Bool) → go (getD text at NONE ∷ x) n m ≡ bad)
+        → bad ≡ answer bad go at (fieldOf (drop at text))
+    unfolding answer
+    answer-bad h =
+        ⊎-elim
+        (λ (here : at < length text). answer-same bad (at + 1) (fieldOf (drop (at + 1) text))
+        ∙ answer-on here (λ x n m. bad) (λ x n m. sym (h x n m)))
+        (λ (past : length text ≤ at). rw (field-past text at past))
+        (order at (length text))
+
+-- ---- the first field's bytes in the text
+
+abbrev Whole : List ℕ → Cut → Type 0
+Whole t endless = Unit
+Whole t (cut x more rest) = t ≡ x ++ cond more tab lineFeed ∷ rest
+
+whole-after : (b : ℕ) (bs : List ℕ) (k : Cut) → Whole bs k → Whole (b ∷ bs) (cutAfter b k)
+whole-after b bs endless h = tt
+whole-after b bs (cut x more rest) h = ap (λ (l : List ℕ). b ∷ l) h
+
+whole : (t : List ℕ) → Whole t (fieldOf t)
+unfolding fieldOf
+whole [] = tt
+whole (b ∷ bs) =
+    ways (eqb b tab) (λ e. simp e (ap (λ (n : ℕ). n ∷ bs) (eqb-true b tab e))) (λ e.
+    ways (eqb b lineFeed) (λ q. simp (e, q) (ap (λ (n : ℕ). n ∷ bs) (eqb-true b lineFeed q)))
+    (λ q. simp (e, q) (whole-after b bs (fieldOf bs) (whole bs))))
+
+module _ (t x : List ℕ) (more : Bool) (rest : List ℕ) (e : fieldOf t ≡ cut x more rest) where
+  -- the text is the field, its end and the rest
+  pub field-whole : t ≡ x ++ cond more tab lineFeed ∷ rest
+  field-whole = rw e at (whole t)
+
+  pub field-rest : drop (length x + 1) t ≡ rest
+  field-rest = rw field-whole (drop-append-add x (cond more tab lineFeed ∷ rest) 1)
+
+  pub field-length : length t ≡ length x + 1 + length rest
+  field-length = rw field-whole (length-append x (cond more tab lineFeed ∷ rest) ∙ omega arith)
+
+-- so the field's bytes stand where it begins
+pub field-bytes : (text : List ℕ) (at : ℕ) (x : List ℕ) (more : Bool) (rest : List ℕ) → fieldOf (drop at text) ≡ cut x more rest
+    → take (length x) (drop at text) ≡ x
+field-bytes text at x more rest e =
+    rw (field-whole (drop at text) x more rest e) (take-append-seam x (cond more tab lineFeed ∷ rest))
+
+-- ---- fields of a line, one after the other
+
+-- the line whose first field is this
+abbrev lineWith : Cut → First
+lineWith endless = unended
+lineWith (cut x more rest) = goesOn (x ∷ []) more rest
+
+begun-behind : (b : ℕ) (x : List ℕ) (l : First) → begun b (behind (x ∷ []) l) ≡ behind ((b ∷ x) ∷ []) l
+begun-behind b x unended = refl
+begun-behind b x (first fs rest) = refl
+
+behind-behind : (fs gs : List (List ℕ)) (l : First) → behind fs (behind gs l) ≡ behind (fs ++ gs) l
+behind-behind fs gs unended = refl
+behind-behind fs gs (first hs rest) = rw (append-assoc fs gs hs)
+
+line-after : (b : ℕ) (k : Cut) → begun b (lineWith k) ≡ lineWith (cutAfter b k)
+line-after b endless = refl
+line-after b (cut x true rest) = begun-behind b x (firstLine rest)
+line-after b (cut x false rest) = refl
+
+line-with : (t : List ℕ) → firstLine t ≡ lineWith (fieldOf t)
+unfolding firstLine fieldOf
+line-with [] = refl
+line-with (b ∷ bs) =
+    ways (eqb b tab) (λ e. simp e) (λ e.
+    ways (eqb b lineFeed) (λ q. simp (e, q))
+    (λ q. simp (e, q) (ap (begun b) (line-with bs) ∙ line-after b (fieldOf bs))))
+
+behind-field : (fs : List (List ℕ)) (x : List ℕ) (more : Bool) (rest : List ℕ)
+    → behind fs (goesOn (x ∷ []) more rest) ≡ goesOn (fs ++ x ∷ []) more rest
+behind-field fs x true rest = behind-behind fs (x ∷ []) (firstLine rest)
+behind-field fs x false rest = refl
+
+behind-none : (l : First) → l ≡ behind [] l
+behind-none unended = refl
+behind-none (first fs rest) = refl
+
+-- no field yet
+pub fields-none : (text : List ℕ) (at : ℕ) → at ≤ length text → Fields text at [] at true
+fields-none text at h = record { on = omega arith; within = h; line = behind-none (firstLine (drop at text)) }
+
+module _ {text : List ℕ} {at : ℕ} {fs : List (List ℕ)} {next : ℕ} (so : Fields text at fs next true) where
+  -- one field more
+  pub fields-more : (x : List ℕ) (more : Bool) (rest : List ℕ) → fieldOf (drop next text) ≡ cut x more rest
+      → Fields text at (fs ++ x ∷ []) (next + (length x + 1)) more
+  fields-more x more rest e =
+      let size = field-length (drop next text) x more rest e in
+      let after : rest ≡ drop (next + (length x + 1)) text =
+      sym (field-rest (drop next text) x more rest e) ∙ drop-drop (length x + 1) next text in
+      record {
+        on = omega (arith, so .on, length-append fs (x ∷ []));
+        within = omega (arith, so .within, size, length-drop next text);
+        line =
+            so .line ∙ ap (behind fs) (line-with (drop next text) ∙ ap lineWith e) ∙ behind-field fs x more rest
+            ∙ ap (goesOn (fs ++ x ∷ []) more) after;
+      }
+
+  -- no field more: the text ends before a line feed
+  pub fields-endless : fieldOf (drop next text) ≡ endless → firstLine (drop at text) ≡ unended
+  fields-endless e = so .line ∙ ap (behind fs) (line-with (drop next text) ∙ ap lineWith e)
+
+-- a line's letter: one byte, and a tab after it
+pub fields-letter : (text : List ℕ) (at b : ℕ) → getD text at NONE ≡ b → b < NONE → b ≢ tab → b ≢ lineFeed → getD text (at + 1) NONE ≡ tab
+    → Fields text at ((b ∷ []) ∷ []) (at + 2) true
+fields-letter text at b e h t l after =
+    let here : at < length text = byte-within text at (rw e h) in
+    fields-more (fields-none text at (omega arith)) (b ∷ []) true (drop (at + 1 + 1) text)
+    (field-on text at here (rw e t) (rw e l) ∙ rw (e, field-tab text (at + 1) after))
+
+-- ---- the first line among the parts of a text
+
+abbrev Parts : List ℕ → First → List (List ℕ) → Type 0
+Parts t unended parts = parts ≡ t ∷ []
+Parts t (first fs rest) parts = (part : List ℕ) × (parts ≡ part ∷ split lineFeed rest) × (split tab part ≡ fs)
+
+parts-tab : (bs : List ℕ) (l : First) (parts : List (List ℕ)) → Parts bs l parts → Parts (tab ∷ bs) (behind ([] ∷ []) l) (onFirst tab parts)
+unfolding split
+parts-tab bs unended parts h = ap (onFirst tab) h
+parts-tab bs (first fs rest) parts h = (tab ∷ h .0, ap (onFirst tab) (h .1), ap (λ (ps : List (List ℕ)). [] ∷ ps) (h .2))
+
+parts-on : (b : ℕ) → eqb b tab ≡ false → (bs : List ℕ) (l : First) (parts : List (List ℕ)) → Parts bs l parts
+    → Parts (b ∷ bs) (begun b l) (onFirst b parts)
+unfolding split
+parts-on b e bs unended parts h = ap (onFirst b) h
+parts-on b e bs (first fs rest) parts h = (b ∷ h .0, ap (onFirst b) (h .1), simp e (ap (onFirst b) (h .2)))
+
+parts-of : (t : List ℕ) → Parts t (firstLine t) (split lineFeed t)
+unfolding firstLine split
+parts-of [] = refl
+parts-of (b ∷ bs) =
+    ways (eqb b tab)
+    (λ e. rw (eqb-true b tab e) (parts-tab bs (firstLine bs) (split lineFeed bs) (parts-of bs)))
+    (λ e. ways (eqb b lineFeed)
+    (λ q. simp (e, q) ([], refl, refl))
+    (λ q. simp (e, q) (parts-on b e bs (firstLine bs) (split lineFeed bs) (parts-of bs))))
+
+-- its bytes are the first part between line feeds, and its fields the parts of that between tabs
+pub line-parts : (text : List ℕ) (fs : List (List ℕ)) (rest : List ℕ) → firstLine text ≡ first fs rest
+    → (part : List ℕ) × (split lineFeed text ≡ part ∷ split lineFeed rest) × (split tab part ≡ fs)
+line-parts text fs rest e = rw e at (parts-of text)
+
+-- a text with no line feed is one part
+pub line-unended : (text : List ℕ) → firstLine text ≡ unended → split lineFeed text ≡ text ∷ []
+line-unended text e = rw e at (parts-of text)
+
+-- ---- a first field of one byte: it is the line's first byte, and stands alone where no tab follows
+
+first-is : (x y : List ℕ) (fs : List (List ℕ)) (rest : List ℕ) (l : First) → behind (x ∷ []) l ≡ first (y ∷ fs) rest → x ≡ y
+first-is x y fs rest unended e = never (cc)
+first-is x y fs rest (first gs r) e = cc
+
+module _ (text : List ℕ) (at b : ℕ) (fs : List (List ℕ)) (rest : List ℕ) (e : firstLine (drop at text) ≡ first ((b ∷ []) ∷ fs) rest) where
+  letter-bytes : (end : ℕ) (r : List ℕ) → drop at text ≡ b ∷ end ∷ r → (getD text at NONE ≡ b) × (getD text (at + 1) NONE ≡ end)
+  letter-bytes end r w =
+      (rw (← add-zero at) (rw (← getD-drop at text 0 NONE, w)), rw (← getD-drop at text 1 NONE, w))
+
+  letter-by : (k : Cut) → Whole (drop at text) k → lineWith k ≡ first ((b ∷ []) ∷ fs) rest
+      → (getD text at NONE ≡ b) × (getD text (at + 1) NONE ≢ tab → fs ≡ [])
+  letter-by endless w q = never (cc)
+  letter-by (cut x true r) w q =
+      let is : x ≡ b ∷ [] = first-is x (b ∷ []) fs rest (firstLine r) q in
+      let seen = letter-bytes tab r (rw is at w) in
+      (seen .0, λ no. absurd (no (seen .1)))
+  letter-by (cut x false r) w q =
+      let is : x ≡ b ∷ [] = cc in
+      (letter-bytes lineFeed r (rw is at w) .0, λ no. cc)
+
+  pub letter-of : getD text at NONE ≡ b
+  letter-of = letter-by (fieldOf (drop at text)) (whole (drop at text)) (sym (line-with (drop at text)) ∙ e) .0
+
+  pub letter-alone : getD text (at + 1) NONE ≢ tab → fs ≡ []
+  letter-alone = letter-by (fieldOf (drop at text)) (whole (drop at text)) (sym (line-with (drop at text)) ∙ e) .1
