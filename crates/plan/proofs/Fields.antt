@@ -11,9 +11,9 @@ use lib.Dec.{eqb, leb}
 use lib.ListN.{length, drop, getD, List·getD-eq-default}
 use borrow.Author.Tests.{ne-eqb, le-leb, eqb-true, eqb-false, leb-true}
 use Rattle.runs.specs.Every.{every}
-use Rattle.runs.specs.Update.{order}
+use Rattle.runs.specs.Update.{order, clash}
+use Rattle.runs.specs.Tests.{ways}
 use Rattle.text.specs.Text.{tab, lineFeed, within, numberOf}
-use Rattle.text.specs.Basics.{ways, clash}
 use Rattle.text.specs.Fields.{NONE, Cut, endless, cut, fieldOf, answer, numberBy, asNumber}
 use Rattle.text.specs.FieldLaws.{byte-within, answer-tab, answer-line-feed, answer-on, answer-bad}
 use Rattle.plan.specs.declared.field.Label.{Label}
@@ -86,7 +86,7 @@ late-never n b other x next more = ways (within 1 16 (n + suc (length x))) (λ e
 -- a label's byte stands in the text
 pub label-within : (text : List ℕ) (at : ℕ) → isLabelByte (getD text at NONE) ≡ true → at < length text
 label-within text at is =
-    ⊎-elim (λ (w : at < length text). w) (λ (w : length text ≤ at). clash (sym (rw (List·getD-eq-default text NONE w) at is)))
+    ⊎-elim (λ (w : at < length text). w) (λ (w : length text ≤ at). (let no : true ≡ false = sym (rw (List·getD-eq-default text NONE w) at is) in clash (cc)))
     (order at (length text))
 
 module _ (n : ℕ) (text : List ℕ) (at : ℕ) where
@@ -104,7 +104,7 @@ module _ (n : ℕ) (text : List ℕ) (at : ℕ) where
   pub label-on : isLabelByte (getD text at NONE) ≡ true
       → lateLabel (n + 1) (at + 1) (fieldOf (drop (at + 1) text)) ≡ lateLabel n at (fieldOf (drop at text))
   label-on is =
-      answer-on labels.Malformed (lateBy n) text at (λ e. clash (sym (rw e at is))) (λ e. clash (sym (rw e at is)))
+      answer-on labels.Malformed (lateBy n) text at (λ e. let no : true ≡ false = sym (rw e at is) in clash (cc)) (λ e. let no : true ≡ false = sym (rw e at is) in clash (cc))
       (label-within text at is) (lateBy (n + 1)) (late-more n (getD text at NONE) is)
 
 -- ---- accesses

@@ -12,6 +12,7 @@ use Rattle.refusals.specs.declared.Refusal.{Refusal}
 use Rattle.refusals.specs.declared.Refusal.the-variants.{Misplaced, TextTooLong}
 use Rattle.runs.specs.Every.{every}
 use Rattle.runs.specs.Update.{clash}
+use Rattle.text.specs.FieldLaws.{some-part}
 use Rattle.text.specs.Text.{lineFeed, tab, within, allOf, onFirst, split, numberOf}
 use Rattle.plan.specs.Plan.{Access, Task, Order, picks, rounds, seeded, Plan, emptyPlan}
 use Rattle.plan.specs.Line.{'P', 'R', 'S', 'T', 'W', Ask, Line, atStart, hasOrders, repeats, isLabel, accessOf}
@@ -73,26 +74,16 @@ unfoldable size : List (List ℕ) → ℕ
 size [] = 0
 size (part ∷ parts) = length part + 1 + size parts
 
-split-some : (separator : ℕ) (text : List ℕ) → 1 ≤ length (split separator text)
-unfolding split
-split-some separator [] = omega arith
-split-some separator (b ∷ bs) = go (eqb b separator) (split separator bs)
-  where
-    go : (t : Bool) (parts : List (List ℕ)) → 1 ≤ length (cond t ([] ∷ parts) (onFirst b parts))
-    go true parts = omega arith
-    go false [] = omega arith
-    go false (part ∷ parts) = omega arith
-
 split-size : (separator : ℕ) (text : List ℕ) → size (split separator text) ≡ length text + 1
 unfolding split size
 split-size separator [] = refl
-split-size separator (b ∷ bs) = go (eqb b separator) (split separator bs) (split-some separator bs) (split-size separator bs)
+split-size separator (b ∷ bs) =
+    let (part, parts, e) = some-part separator bs in rw e (go (eqb b separator) part parts (rw e at (split-size separator bs)))
   where
-    go : (t : Bool) (parts : List (List ℕ)) → 1 ≤ length parts → size parts ≡ length bs + 1
-        → size (cond t ([] ∷ parts) (onFirst b parts)) ≡ suc (length bs) + 1
-    go true parts l h = omega arith
-    go false [] l h = absurd (omega arith)
-    go false (part ∷ parts) l h = omega arith
+    go : (t : Bool) (part : List ℕ) (parts : List (List ℕ)) → size (part ∷ parts) ≡ length bs + 1
+        → size (cond t ([] ∷ part ∷ parts) (onFirst b (part ∷ parts))) ≡ suc (length bs) + 1
+    go true part parts h = omega arith
+    go false part parts h = omega arith
 
 -- ---- what is read so far
 
@@ -105,11 +96,11 @@ record Begun (p : Plan) : Type 0 where
   pub orders : Each (OrderFormed (p .workers)) (p .orders)
 
 -- all that is asked holds, where there is no fault
-abbrev Granted : List Ask → Type 0
+abbrev pub Granted : List Ask → Type 0
 Granted [] = Unit {0}
 Granted (a ∷ asks) = (a .holds ≡ true) × Granted asks
 
-granted : (asks : List Ask) → firstRefusal asks ≡ none → Granted asks
+pub granted : (asks : List Ask) → firstRefusal asks ≡ none → Granted asks
 unfolding firstRefusal
 granted [] e = tt
 granted (a ∷ asks) e = go (a .holds) refl e (granted asks)

@@ -10,11 +10,11 @@ use lib.Dec.{eqb, leb, ltb, leb·suc-suc}
 use lib.ListN.{length, take, drop, getD, set, replicate, getD-replicate}
 use lib.Seq.{ext-getD, getD-set-same, getD-set-other}
 use borrow.Author.Tests.{eqb-true, eqb-false, lt-ltb}
-use Rattle.runs.specs.Update.{order}
+use Rattle.runs.specs.Update.{order, clash}
 use Rattle.text.specs.declared.read.Number.{Number}
 use Rattle.text.specs.declared.read.Number.the-variants as numbers
+use Rattle.runs.specs.Tests.{ways}
 use Rattle.text.specs.Text.{numberOf}
-use Rattle.text.specs.Basics.{ways, never}
 use Rattle.text.specs.Fields.{Cut, endless, cut, fieldOf, answer, asNumber, clipped, Fields}
 use Rattle.text.specs.FieldLaws.{fields-none, fields-more, field-bytes}
 use Rattle.plan.specs.declared.field.Label.{Label}
@@ -69,7 +69,7 @@ module _ (text : List ℕ) (at : ℕ) (in-text : at ≤ length text) (l : Label)
     where
       says : (x : List ℕ) (y : Bool) (rest : List ℕ) → fieldOf (drop at text) ≡ cut x y rest → (b : Bool) → isLabel x ≡ b
           → labels.Is len next more ≡ labelBy b (length x) (at + (length x + 1)) y → Named text at len next more
-      says x y rest q false o e = never (cc)
+      says x y rest q false o e = clash (cc)
       says x y rest q true o e =
           let ends : at + (length x + 1) ≡ next = cc in
           let on : y ≡ more = cc in
@@ -82,7 +82,7 @@ module _ (text : List ℕ) (at : ℕ) (in-text : at ≤ length text) (l : Label)
           }
 
       by : (k : Cut) → fieldOf (drop at text) ≡ k → labels.Is len next more ≡ asLabel at k → Named text at len next more
-      by endless q e = never (cc)
+      by endless q e = clash (cc)
       by (cut x y rest) q e = says x y rest q (isLabel x) refl e
 
   label-untold : l ≡ labels.Malformed → (x : List ℕ) (more : Bool) (rest : List ℕ) → fieldOf (drop at text) ≡ cut x more rest
@@ -92,7 +92,7 @@ module _ (text : List ℕ) (at : ℕ) (in-text : at ≤ length text) (l : Label)
     where
       by : (b : Bool) → labels.Malformed ≡ labelBy b (length x) (at + (length x + 1)) more → b ≡ false
       by false e = refl
-      by true e = never (cc)
+      by true e = clash (cc)
 
 -- ---- lines that are not of the form
 

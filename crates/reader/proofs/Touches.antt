@@ -9,12 +9,14 @@ use lib.ListN.{length, getD, set, replicate, length-append}
 use lib.Dec.{eqb, leb, ltb}
 use borrow.Author.Tests.{le-ltb, le-leb, lt-leb, leb-true, leb-false, ltb-true, ltb-false}
 use Rattle.refusals.specs.declared.Refusal.the-variants.{OutOfRange, Misplaced, TooMany, AddressTwice}
-use Rattle.runs.specs.Every.{every}
-use Rattle.text.specs.Basics.{ways, never, both-left, both-right, every-append}
+use Rattle.runs.specs.Every.{every, every-append}
+use Rattle.runs.specs.Tests.{ways, both-left, both-right}
+use Rattle.runs.specs.Update.{clash}
 use Rattle.text.specs.Fields.{clipped}
 use Rattle.plan.specs.Plan.{Access, Plan}
-use Rattle.plan.specs.Line.{Ask, ask, access, repeats, atStart, hasOrders, taskLine}
+use Rattle.plan.specs.Line.{ask, access, repeats, atStart, hasOrders, taskLine}
 use Rattle.plan.specs.Reading.{firstRefusal}
+use Rattle.plan.specs.Accepted.{granted}
 use Rattle.plan.specs.PassFields.{bit}
 use Rattle.kept.specs.Tasks.{accessNumbers, Placed, rowOf}
 use Rattle.kept.specs.TaskLaws.{number-at}
@@ -144,15 +146,16 @@ clip-low v =
     let q : leb v 65535 ≡ false = lt-leb v 65535 (omega arith) in
     simp (e, q))
 
+-- accesses as the code sees them
 abbrev pub seen : List Access → List Access
 seen xs = map (λ a. access (a .writes) (clipped (a .address))) xs
 
-pub seen-low : (xs : List Access) → lowAddresses (seen xs) ≡ lowAddresses xs
+seen-low : (xs : List Access) → lowAddresses (seen xs) ≡ lowAddresses xs
 unfolding every
 seen-low [] = refl
 seen-low (a ∷ xs) = ap₂ (λ (b c : Bool). b && c) (clip-low (a .address)) (seen-low xs)
 
-pub seen-same : (xs : List Access) → lowAddresses xs ≡ true → seen xs ≡ xs
+seen-same : (xs : List Access) → lowAddresses xs ≡ true → seen xs ≡ xs
 unfolding every
 seen-same [] e = refl
 seen-same (a ∷ xs) e =
@@ -160,7 +163,7 @@ seen-same (a ∷ xs) e =
     let q : clipped (a .address) ≡ a .address = low-clipped (a .address) (omega arith) in
     rw (q, seen-same xs (both-right (leb (a .address) 65535) (lowAddresses xs) e))
 
-pub seen-length : (xs : List Access) → length (seen xs) ≡ length xs
+seen-length : (xs : List Access) → length (seen xs) ≡ length xs
 seen-length [] = refl
 seen-length (a ∷ xs) = ap suc (seen-length xs)
 
@@ -182,16 +185,6 @@ fault-by true true true true true s a n out tasks count again = simp (out, tasks
     last true = refl
     last false = refl
 
--- what is asked first holds, and the rest has no refusal
-holds : (a : Ask) (asks : List Ask) → firstRefusal (a ∷ asks) ≡ none → (a .holds ≡ true) × (firstRefusal asks ≡ none)
-unfolding firstRefusal
-holds a asks e = go (a .holds) refl e
-  where
-    go : (b : Bool) → a .holds ≡ b → cond b (firstRefusal asks) (some (a .otherwise)) ≡ none
-        → (a .holds ≡ true) × (firstRefusal asks ≡ none)
-    go true h e = (h, e)
-    go false h e = never (cc)
-
 module _ (p : Plan) (label : List ℕ) (cost : ℕ) (xs : List Access) {t : Placed} {a : Accesses} {row : List ℕ}
     (so : Reads t (seen xs) a row) where
   pub task-fault : taskFault (headFault p cost) a (length (p .tasks))
@@ -209,10 +202,10 @@ module _ (p : Plan) (label : List ℕ) (cost : ℕ) (xs : List Access) {t : Plac
           rw (so .count, seen-length xs)
           (ways (leb (length xs) 4) (λ e. simp (e, le-ltb 4 (length xs) (leb-true (length xs) 4 e))) (λ e. simp e))
 
-  -- without a fault there is room for the task, and its row is in hand
+  -- without a fault there is room for the task and its accesses
   module _ (good : firstRefusal (taskLine p (record { label = label; cost = cost; accesses = xs }) .asks) ≡ none) where
     in-range : ((leb cost 1000 && lowAddresses xs) ≡ true) × ((ltb (length (p .tasks)) 128 && leb (length xs) 4) ≡ true)
-    in-range = let range = holds _ _ (holds _ _ good .1) in (range .0, holds _ _ (range .1) .0)
+    in-range = let all = granted _ good in (all .1 .0, all .1 .1 .0)
 
     pub task-room : length (p .tasks) < 128
     task-room = ltb-true _ _ (both-left (ltb (length (p .tasks)) 128) (leb (length xs) 4) (in-range .1))
@@ -220,7 +213,7 @@ module _ (p : Plan) (label : List ℕ) (cost : ℕ) (xs : List Access) {t : Plac
     pub task-few : length xs ≤ 4
     task-few = leb-true _ _ (both-right (ltb (length (p .tasks)) 128) (leb (length xs) 4) (in-range .1))
 
--- and its row is in hand
+-- and its row is the one in hand
 pub task-row : (p : Plan) (label : List ℕ) (cost : ℕ) (xs : List Access) (at : ℕ) {a : Accesses} {row : List ℕ}
     → Reads (bare at label cost) (seen xs) a row
     → firstRefusal (taskLine p (record { label = label; cost = cost; accesses = xs }) .asks) ≡ none

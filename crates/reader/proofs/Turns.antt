@@ -11,10 +11,11 @@ use lib.Dec.{eqb}
 use borrow.Author.Tests.{lt-ltb, le-ltb, eq-eqb, ne-eqb}
 use Rattle.refusals.specs.declared.Refusal.{Refusal}
 use Rattle.refusals.specs.declared.Refusal.the-variants.{Malformed, Misplaced, TextTooLong}
-use Rattle.text.specs.Basics.{never, byte-at}
+use Rattle.runs.specs.Update.{clash}
+use Rattle.runs.specs.Stores.{drop-from}
 use Rattle.text.specs.Text.{lineFeed, onFirst, split, allOf, numberOf}
 use Rattle.text.specs.Fields.{Cut, endless, cut, fieldOf, answer, First, unended, first, firstLine, Fields, clipped}
-use Rattle.text.specs.FieldLaws.{field-length, fields-more, line-parts, line-unended}
+use Rattle.text.specs.FieldLaws.{some-part, field-length, fields-more, line-parts, line-unended}
 use Rattle.plan.specs.declared.field.Access.the-variants as accesses
 use Rattle.plan.specs.Plan.{Access, Order, Plan, emptyPlan, withWorkers, withTask, withOrder}
 use Rattle.plan.specs.Line as plans
@@ -45,23 +46,12 @@ use Rattle.reader.proofs.Touches.{seen, task-fault, task-room, task-few
 -- ---- a text from a line on, by that line
 
 refusal-is : (o : Option Refusal) (r : Refusal) → faultOf o ≡ Is r → o ≡ some r
-refusal-is none r e = never (cc)
+refusal-is none r e = clash (cc)
 refusal-is (some f) r e = ap some (cc)
 
 refusal-none : (o : Option Refusal) → faultOf o ≡ Nothing → o ≡ none
 refusal-none none e = refl
-refusal-none (some f) e = never (cc)
-
--- a text has a first part
-some-part : (separator : ℕ) (t : List ℕ) → (y : List ℕ) × (ys : List (List ℕ)) × (split separator t ≡ y ∷ ys)
-unfolding split
-some-part separator [] = ([], [], refl)
-some-part separator (b ∷ bs) = go (eqb b separator) (split separator bs)
-  where
-    go : (t : Bool) (parts : List (List ℕ)) → (y : List ℕ) × (ys : List (List ℕ)) × (cond t ([] ∷ parts) (onFirst b parts) ≡ y ∷ ys)
-    go true parts = ([], parts, refl)
-    go false [] = (b ∷ [], [], refl)
-    go false (part ∷ parts) = (b ∷ part, parts, refl)
+refusal-none (some f) e = clash (cc)
 
 module _ (p : Plan) (n : ℕ) (text : List ℕ) (begin : ℕ) where
   -- what the text comes to from line n on
@@ -82,7 +72,7 @@ module _ (p : Plan) (n : ℕ) (text : List ℕ) (begin : ℕ) where
   comes-formless h f = go (firstLine (drop begin text)) refl f
     where
       go : (l : First) → firstLine (drop begin text) ≡ l → Formless (lineOfFields p) l → comes ≡ refused Malformed n
-      go unended e f = rw (line-unended (drop begin text) e, byte-at text begin 0 h)
+      go unended e f = rw (line-unended (drop begin text) e, drop-from text begin 0 h)
       go (first fs rest) e f = comes-first fs rest e ∙ rw f
 
   -- a line of its form
@@ -102,7 +92,7 @@ module _ (p : Plan) (n : ℕ) (text : List ℕ) (begin : ℕ) where
     line-forth = go fs form (so .on)
       where
         go : (fs : List (List ℕ)) → lineOfFields p fs ≡ some l → begin + length fs ≤ next → begin < next
-        go [] e h = never (cc)
+        go [] e h = clash (cc)
         go (f ∷ fs) e h = omega arith
 
 -- ---- the line in hand
@@ -129,7 +119,7 @@ pub data InLine (text : List ℕ) (begin : ℕ) (p : Plan) (line : Line) (at : �
   tasks : TaskRead text begin p line at more a row → InLine text begin p line at more a row
 
 -- none of its accesses is read yet
-pub line-begins : {text : List ℕ} {begin : ℕ} {p : Plan} {line : Line} {a : Accesses} {row : List ℕ} → LineAt text begin p row line
+line-begins : {text : List ℕ} {begin : ℕ} {p : Plan} {line : Line} {a : Accesses} {row : List ℕ} → LineAt text begin p row line
     → ((t : Placed) → Reads t [] a (rowOf (withAccesses t []))) → InLine text begin p line (line .next) (line .more) a row
 unfolding allOf
 line-begins (whole (malformed e f)) start = other (malformed e f) refl (ap (λ (l : Line). l .more) e)
@@ -169,13 +159,13 @@ line-inside (tasks t) = t .fields .within
 all-more : {A : Type 0} (os : List (Option A)) (xs : List A) (x : A) → allOf os ≡ some xs → allOf (os ++ some x ∷ []) ≡ some (xs ++ x ∷ [])
 unfolding allOf
 all-more [] xs x e = let none-yet : xs ≡ [] = cc in rw none-yet
-all-more (none ∷ os) xs x e = never (cc)
+all-more (none ∷ os) xs x e = clash (cc)
 all-more {A} (some y ∷ os) xs x e = go (allOf os) e (λ ys. all-more os ys x)
   where
     go : (o : Option (List A)) → elim o [ none ↦ none | some ys ↦ some (y ∷ ys) ] ≡ some xs
         → ((ys : List A) → o ≡ some ys → allOf (os ++ some x ∷ []) ≡ some (ys ++ x ∷ []))
         → allOf (some y ∷ (os ++ some x ∷ [])) ≡ some (xs ++ x ∷ [])
-    go none e rest = never (cc)
+    go none e rest = clash (cc)
     go (some ys) e rest = let is : xs ≡ y ∷ ys = cc in rw (rest ys refl, allOf, is)
 
 -- one is not there
@@ -194,12 +184,12 @@ module _ (text : List ℕ) (at : ℕ) where
     where
       by : (x : List ℕ) (o : Option Access) (m : Bool) → accesses.Is writes address next more ≡ accessBy o (at + (length x + 1)) m
           → next ≡ at + (length x + 1)
-      by x none m e = never (cc)
+      by x none m e = clash (cc)
       by x (some a) m e = cc
 
       go : (k : Cut) → fieldOf (drop at text) ≡ k → accesses.Is writes address next more ≡ asAccess at k
           → (at < next) × (next ≤ length text)
-      go endless q e = never (cc)
+      go endless q e = clash (cc)
       go (cut x m rest) q e =
           let n = by x (accessOf x) m e in
           (omega arith, omega (arith, field-length (drop at text) x m rest q, length-drop at text))
@@ -213,7 +203,7 @@ task-form p label digits cost l n gs = rw (l, n)
 module _ {text : List ℕ} {begin : ℕ} {p : Plan} {line : Line} {at : ℕ} {a : Accesses} {row : List ℕ} where
   -- where more is to come, the line is a task's
   is-task : InLine text begin p line at true a row → TaskRead text begin p line at true a row
-  is-task (other w e more) = never (cc)
+  is-task (other w e more) = clash (cc)
   is-task (tasks t) = t
 
   module _ (so : InLine text begin p line at true a row) where
@@ -234,7 +224,7 @@ module _ {text : List ℕ} {begin : ℕ} {p : Plan} {line : Line} {at : ℕ} {a 
       where
         by : (x : List ℕ) (o : Option Access) (m : Bool) (rest : List ℕ) → fieldOf (drop at text) ≡ cut x m rest → accessOf x ≡ o
             → accesses.Is writes address next more ≡ accessBy o (at + (length x + 1)) m → InLine text begin p line next more b after
-        by x none m rest q o e = never (cc)
+        by x none m rest q o e = clash (cc)
         by x (some y) m rest q o e =
             let n : next ≡ at + (length x + 1) = cc in
             let same : more ≡ m = cc in
@@ -261,7 +251,7 @@ module _ {text : List ℕ} {begin : ℕ} {p : Plan} {line : Line} {at : ℕ} {a 
 
         go : (k : Cut) → fieldOf (drop at text) ≡ k → accesses.Is writes address next more ≡ asAccess at k
             → InLine text begin p line next more b after
-        go endless q e = never (cc)
+        go endless q e = clash (cc)
         go (cut x m rest) q e = by x (accessOf x) m rest q refl e
 
     -- a field that is no access
@@ -275,7 +265,7 @@ module _ {text : List ℕ} {begin : ℕ} {p : Plan} {line : Line} {at : ℕ} {a 
       where
         no-access : (x : List ℕ) (o : Option Access) (m : Bool) → accesses.Malformed ≡ accessBy o (at + (length x + 1)) m → o ≡ none
         no-access x none m e = refl
-        no-access x (some y) m e = never (cc)
+        no-access x (some y) m e = clash (cc)
 
 -- ---- a line that has ended
 
@@ -360,7 +350,7 @@ module _ {text : List ℕ} {begin : ℕ} {p : Plan} {line : Line} {at : ℕ} {a 
       where
         go : Ended text begin p line at a row
             → (q : Plan) × (begin < at) × (at ≤ length text) × (comes p n text begin ≡ comes q (n + 1) text at) × Adds text line row p q
-        go (wrong w f) = never (cc)
+        go (wrong w f) = clash (cc)
         go (right x) = (
           x .l .plan,
           line-forth p n text begin (x .l) (x .fs) at (x .form) (x .fields),

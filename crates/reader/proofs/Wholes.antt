@@ -12,7 +12,8 @@ use Rattle.refusals.specs.declared.Refusal.the-variants.{OutOfRange, Misplaced}
 use Rattle.text.specs.declared.read.Number.{Number}
 use Rattle.text.specs.declared.read.Number.the-variants as numbers
 use Rattle.text.specs.Text.{within, numberOf}
-use Rattle.text.specs.Basics.{ways, never, both-left, both-right, not-both}
+use Rattle.runs.specs.Tests.{ways, both-left, both-right, not-both}
+use Rattle.runs.specs.Update.{clash}
 use Rattle.text.specs.Fields.{Cut, endless, cut, fieldOf, answer, asNumber, numberBy, clipped, fitsIn}
 use Rattle.text.specs.Fields.{First, unended, first, behind, firstLine, Fields}
 use Rattle.text.specs.FieldLaws.{fields-none, fields-more, fields-endless}
@@ -73,7 +74,7 @@ module _ {text : List ℕ} {at : ℕ} {fs : List (List ℕ)} {then : ℕ} (so : 
     where
       says : (x : List ℕ) (y : Bool) (rest : List ℕ) → fieldOf (drop then text) ≡ cut x y rest → (v : Option ℕ) → numberOf x ≡ v
           → numbers.Is value fits next more ≡ numberBy v (then + (length x + 1)) y → Told text at fs value fits next more
-      says x y rest q none o e = never (cc)
+      says x y rest q none o e = clash (cc)
       says x y rest q (some v) o e =
           let ends : then + (length x + 1) ≡ next = cc in
           let on : y ≡ more = cc in
@@ -88,7 +89,7 @@ module _ {text : List ℕ} {at : ℕ} {fs : List (List ℕ)} {then : ℕ} (so : 
 
       by : (k : Cut) → fieldOf (drop then text) ≡ k → numbers.Is value fits next more ≡ asNumber then k
           → Told text at fs value fits next more
-      by endless q e = never (cc)
+      by endless q e = clash (cc)
       by (cut x y rest) q e = says x y rest q (numberOf x) refl e
 
   pub number-untold : n ≡ numbers.Malformed → (x : List ℕ) (more : Bool) (rest : List ℕ) → fieldOf (drop then text) ≡ cut x more rest
@@ -98,7 +99,7 @@ module _ {text : List ℕ} {at : ℕ} {fs : List (List ℕ)} {then : ℕ} (so : 
     where
       by : (v : Option ℕ) → numbers.Malformed ≡ numberBy v (then + (length x + 1)) more → v ≡ none
       by none e = refl
-      by (some v) e = never (cc)
+      by (some v) e = clash (cc)
 
 -- the first field of those that begin at a place
 pub first-told : (text : List ℕ) (at : ℕ) → at ≤ length text → (n : Number) → n ≡ asNumber at (fieldOf (drop at text))
@@ -208,13 +209,13 @@ module _ (place range : Bool) where
 
   in-range : firstRefusal (ask place Misplaced ∷ ask range OutOfRange ∷ []) ≡ none → range ≡ true
   unfolding firstRefusal
-  in-range e = ways range (λ h. h) (λ h. ways place (λ q. never (cc (simp (q, h) at e))) (λ q. never (cc (simp q at e))))
+  in-range e = ways range (λ h. h) (λ h. ways place (λ q. clash (cc (simp (q, h) at e))) (λ q. clash (cc (simp q at e))))
 
 pub no-fault : (misplaced out : Bool) (fault : Fault) → fault ≡ firstFault misplaced out → fault ≡ Nothing → out ≡ false
 unfolding firstRefusal
 no-fault misplaced false fault e q = refl
-no-fault true true fault e q = never (cc)
-no-fault false true fault e q = never (cc)
+no-fault true true fault e q = clash (cc)
+no-fault false true fault e q = clash (cc)
 
 -- ---- lines that are of their form
 

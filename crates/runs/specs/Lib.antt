@@ -1,4 +1,5 @@
 pub mod Update
+pub mod Tests
 pub mod Sums
 pub mod Counts
 pub mod Below

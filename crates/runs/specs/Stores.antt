@@ -5,8 +5,9 @@ use mathlib.Core.Logic.{_⊎_, inl, inr, ⊎-elim}
 use mathlib.Core.List.{List, [], _∷_, _++_}
 use native.Mathlib.Nat.{add-zero}
 use native.Mathlib.Omega.{arith}
-use lib.ListN.{length, getD, set, length-set, replicate}
-use lib.Seq.{sets, getD-set-same, getD-set-other, set-comm, set-set}
+use native.Mathlib.Numerals.{add-one}
+use lib.ListN.{length, drop, getD, set, length-set, replicate}
+use lib.Seq.{drop-cons, sets, getD-set-same, getD-set-other, set-comm, set-set}
 
 module _ {A : Type 0} where
   pub none-of : (l : List A) → length l ≡ 0 → l ≡ []
@@ -16,6 +17,16 @@ module _ {A : Type 0} where
   pub first-of : (l : List A) → 0 < length l → (x : A) × (xs : List A) × (l ≡ x ∷ xs)
   first-of [] l = absurd (omega arith)
   first-of (x ∷ xs) l = (x, xs, refl)
+
+  -- the element at a place, and those after it
+  pub drop-from : (l : List A) (i : ℕ) (d : A) → i < length l → drop i l ≡ getD l i d ∷ drop (i + 1) l
+  drop-from l i d h = rw (add-one, drop-cons l i d)
+
+  -- in a list it does not matter what stands for what is past its end
+  pub getD-any : (l : List A) (i : ℕ) (d e : A) → i < length l → getD l i d ≡ getD l i e
+  getD-any [] i d e h = absurd (omega arith)
+  getD-any (x ∷ l) zero d e h = refl
+  getD-any (x ∷ l) (suc i) d e h = getD-any l i d e (omega arith)
 
   -- a run of stores, and one that goes on where it ended
   pub sets-append : (xs ys l : List A) (i : ℕ) → sets l i (xs ++ ys) ≡ sets (sets l i xs) (i + length xs) ys

@@ -14,7 +14,7 @@ use Rattle.text.specs.declared.read.Number.{Number}
 use Rattle.text.specs.declared.read.Number.the-variants.{Malformed}
 use Rattle.text.specs.declared.read.Digits.{Digits}
 use Rattle.text.specs.Text.{tab, lineFeed, isDigit, valueAfter, numberOf}
-use Rattle.text.specs.Basics.{ways}
+use Rattle.runs.specs.Tests.{ways}
 use Rattle.text.specs.Fields.{NONE, fieldOf, answer, fitsIn, numberBy, asNumber}
 use Rattle.text.specs.Fields.{held, Clipped, digitAfter, endNumber, moreOf, moreDigits}
 use Rattle.text.specs.FieldLaws.{byte-within, answer-tab, answer-line-feed, answer-on, answer-bad}

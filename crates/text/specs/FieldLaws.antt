@@ -10,8 +10,9 @@ use lib.Dec.{eqb}
 use lib.ListN.{length, take, drop, getD, length-append, length-drop, drop-of-length-le, List·getD-eq-default}
 use lib.Seq.{drop-drop, getD-drop, take-append-seam, drop-append-add}
 use borrow.Author.Tests.{ne-eqb, eqb-true}
-use Rattle.runs.specs.Update.{order}
-use Rattle.text.specs.Basics.{ways, never, byte-at}
+use Rattle.runs.specs.Update.{order, clash}
+use Rattle.runs.specs.Tests.{ways}
+use Rattle.runs.specs.Stores.{drop-from}
 use Rattle.text.specs.Text.{tab, lineFeed, onFirst, split}
 use Rattle.text.specs.Fields.{NONE, Cut, endless, cut, cutAfter, fieldOf, answer}
 use Rattle.text.specs.Fields.{First, unended, first, behind, begun, firstLine, goesOn, Fields}
@@ -31,16 +32,16 @@ module _ (text : List ℕ) (at : ℕ) where
 
   pub field-tab : getD text at NONE ≡ tab → fieldOf (drop at text) ≡ cut [] true (drop (at + 1) text)
   unfolding fieldOf
-  field-tab e = rw (byte-at text at NONE (byte-within (omega arith)), e)
+  field-tab e = rw (drop-from text at NONE (byte-within (omega arith)), e)
 
   pub field-line-feed : getD text at NONE ≡ lineFeed → fieldOf (drop at text) ≡ cut [] false (drop (at + 1) text)
   unfolding fieldOf
-  field-line-feed e = rw (byte-at text at NONE (byte-within (omega arith)), e)
+  field-line-feed e = rw (drop-from text at NONE (byte-within (omega arith)), e)
 
   pub field-on : at < length text → getD text at NONE ≢ tab → getD text at NONE ≢ lineFeed
       → fieldOf (drop at text) ≡ cutAfter (getD text at NONE) (fieldOf (drop (at + 1) text))
   unfolding fieldOf
-  field-on h t l = rw (byte-at text at NONE h) (simp (ne-eqb (getD text at NONE) tab t, ne-eqb (getD text at NONE) lineFeed l))
+  field-on h t l = rw (drop-from text at NONE h) (simp (ne-eqb (getD text at NONE) tab t, ne-eqb (getD text at NONE) lineFeed l))
 
 -- ---- what a reader answers of that field, by the byte there
 
@@ -218,6 +219,17 @@ parts-of (b ∷ bs) =
     (λ q. simp (e, q) ([], refl, refl))
     (λ q. simp (e, q) (parts-on b e bs (firstLine bs) (split lineFeed bs) (parts-of bs))))
 
+-- a text has a first part
+pub some-part : (separator : ℕ) (t : List ℕ) → (y : List ℕ) × (ys : List (List ℕ)) × (split separator t ≡ y ∷ ys)
+unfolding split
+some-part separator [] = ([], [], refl)
+some-part separator (b ∷ bs) = go (eqb b separator) (split separator bs)
+  where
+    go : (t : Bool) (parts : List (List ℕ)) → (y : List ℕ) × (ys : List (List ℕ)) × (cond t ([] ∷ parts) (onFirst b parts) ≡ y ∷ ys)
+    go true parts = ([], parts, refl)
+    go false [] = (b ∷ [], [], refl)
+    go false (part ∷ parts) = (b ∷ part, parts, refl)
+
 -- its bytes are the first part between line feeds, and its fields the parts of that between tabs
 pub line-parts : (text : List ℕ) (fs : List (List ℕ)) (rest : List ℕ) → firstLine text ≡ first fs rest
     → (part : List ℕ) × (split lineFeed text ≡ part ∷ split lineFeed rest) × (split tab part ≡ fs)
@@ -230,7 +242,7 @@ line-unended text e = rw e at (parts-of text)
 -- ---- a first field of one byte: it is the line's first byte, and stands alone where no tab follows
 
 first-is : (x y : List ℕ) (fs : List (List ℕ)) (rest : List ℕ) (l : First) → behind (x ∷ []) l ≡ first (y ∷ fs) rest → x ≡ y
-first-is x y fs rest unended e = never (cc)
+first-is x y fs rest unended e = clash (cc)
 first-is x y fs rest (first gs r) e = cc
 
 module _ (text : List ℕ) (at b : ℕ) (fs : List (List ℕ)) (rest : List ℕ) (e : firstLine (drop at text) ≡ first ((b ∷ []) ∷ fs) rest) where
@@ -240,7 +252,7 @@ module _ (text : List ℕ) (at b : ℕ) (fs : List (List ℕ)) (rest : List ℕ)
 
   letter-by : (k : Cut) → Whole (drop at text) k → lineWith k ≡ first ((b ∷ []) ∷ fs) rest
       → (getD text at NONE ≡ b) × (getD text (at + 1) NONE ≢ tab → fs ≡ [])
-  letter-by endless w q = never (cc)
+  letter-by endless w q = clash (cc)
   letter-by (cut x true r) w q =
       let is : x ≡ b ∷ [] = first-is x (b ∷ []) fs rest (firstLine r) q in
       let seen = letter-bytes tab r (rw is at w) in

@@ -1,5 +1,4 @@
 pub mod Text
-pub mod Basics
 pub mod Decimals
 pub mod Fields
 pub mod FieldLaws

@@ -8,7 +8,7 @@ use borrow.Author.Needs.{needs}
 use lib.ListN.{length}
 use Rattle.refusals.specs.declared.Refusal.{Refusal}
 use Rattle.refusals.specs.declared.Refusal.the-variants.{Malformed}
-use Rattle.text.specs.Basics.{never}
+use Rattle.runs.specs.Update.{clash}
 use Rattle.plan.specs.Plan.{Plan}
 use Rattle.plan.specs.Reading.{refused}
 use Rattle.kept.specs.Layout.{taskRow}
@@ -17,7 +17,8 @@ use Rattle.kept.specs.TaskLaws.{tasks-length}
 use Rattle.reader.specs.declared.line.Fault.the-variants.{Nothing, Is}
 use Rattle.reader.specs.Verdict.{lent}
 use Rattle.reader.proofs.Turns.{comes, comes-formless, InLine, found, line-inside, access-next, access-read, access-wrong}
-use Rattle.reader.proofs.Turns.{line-refused, AtLine, text-begins, in-hand, line-kept, gives-refused, gives-misplaced, gives-accepted}
+use Rattle.reader.proofs.Turns.{line-refused, AtLine, text-begins, in-hand, line-kept}
+use Rattle.reader.proofs.Turns.{gives-refused, gives-misplaced, gives-accepted}
 use Rattle.reader.proofs.read_lines.Statement.{statement}
 use Rattle.reader.proofs.read_lines.Tie as tie
 
@@ -63,9 +64,9 @@ left c =
     let o = c .before .lines in
     let g = o .inv .2 in
     by-three (c .lines-test .came)
-    (λ w. (λ e. w .0 .left, λ r e. let q : Nothing ≡ Is r = sym (o .inv .1) ∙ sym (w .2) ∙ e in never (cc)))
+    (λ w. (λ e. w .0 .left, λ r e. let q : Nothing ≡ Is r = sym (o .inv .1) ∙ sym (w .2) ∙ e in clash (cc)))
     (λ w. (
-      λ e. let q : Is Malformed ≡ Nothing = sym (w .11) ∙ e in never (cc),
+      λ e. let q : Is Malformed ≡ Nothing = sym (w .11) ∙ e in clash (cc),
       λ r e.
           let q : Is Malformed ≡ Is r = sym (w .11) ∙ e in
           let m : Malformed ≡ r = cc in
@@ -74,7 +75,7 @@ left c =
           (access-wrong (found hand (w .6 .taken)) (sym (w .9 .given .1) ∙ w .7 .ensures))),
     ))
     (λ w. (
-      λ e. let q : Is (w .9 .given .0 .0) ≡ Nothing = sym (w .9 .given .1) ∙ sym (w .11) ∙ e in never (cc),
+      λ e. let q : Is (w .9 .given .0 .0) ≡ Nothing = sym (w .9 .given .1) ∙ sym (w .11) ∙ e in clash (cc),
       λ r e.
           let hand = in-hand g (w .2 .ensures) (w .4 .ensures) (w .5 .inv .2) in
           line-refused (o .number) (found hand (w .6 .left)) (w .0 .taken) r

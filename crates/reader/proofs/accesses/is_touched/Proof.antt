@@ -9,8 +9,7 @@ use borrow.Author.Tests.{eq-eqb, ne-eqb}
 use lib.Dec.{eqb}
 use lib.ListN.{length, take}
 use lib.Seq.{take-all, take-length}
-use Rattle.runs.specs.Every.{every}
-use Rattle.text.specs.Basics.{every-more, every-fails}
+use Rattle.runs.specs.Every.{every, every-more, every-fails}
 use Rattle.plan.specs.Plan.{Access}
 use Rattle.plan.specs.Line.{access}
 use Rattle.kept.specs.Tasks.{Placed, rowOf}

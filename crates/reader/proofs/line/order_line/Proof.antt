@@ -3,7 +3,7 @@ use mathlib.Core.Path.{refl}
 use native.Mathlib.Omega.{arith}
 use borrow.Author.Needs.{needs}
 use lib.Dec.{eqb}
-use Rattle.text.specs.Basics.{never}
+use Rattle.runs.specs.Update.{clash}
 use Rattle.reader.proofs.Wholes.{no-fault}
 use Rattle.reader.proofs.line.order_line.Statement.{statement}
 use Rattle.reader.proofs.line.order_line.Tie as tie
@@ -21,7 +21,7 @@ returns c =
       after = refl;
       ended = refl;
       judged = c .before .before .first-fault .ensures;
-      tells = λ e. never (cc (c .enum-told .given .1, c .before .before .first-fault .ensures));
+      tells = λ e. clash (cc (c .enum-told .given .1, c .before .before .first-fault .ensures));
     }
 
 enum-told-2 : tie.Need-enum-told-2

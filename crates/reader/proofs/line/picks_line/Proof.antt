@@ -4,7 +4,7 @@ use native.Mathlib.Omega.{arith}
 use borrow.Author.Needs.{needs}
 use borrow.Author.Tests.{not-true, not-false, leb-false}
 use lib.Dec.{leb}
-use Rattle.text.specs.Basics.{or-left, or-right}
+use Rattle.runs.specs.Tests.{or-left, or-right}
 use Rattle.plan.specs.Line.{picksLine}
 use Rattle.reader.proofs.Wholes.{first-told, number-told, two-untold, two-ends, second-untold, two-goes-on}
 use Rattle.reader.proofs.Wholes.{two-formed, picks-judged, bounded}

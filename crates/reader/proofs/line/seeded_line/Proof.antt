@@ -3,7 +3,7 @@ use mathlib.Core.Path.{sym, _∙_}
 use mathlib.Core.Bool.{not}
 use borrow.Author.Needs.{needs}
 use borrow.Author.Tests.{not-true, not-false}
-use Rattle.text.specs.Basics.{or-right}
+use Rattle.runs.specs.Tests.{or-right}
 use Rattle.plan.specs.Line.{seededLine}
 use Rattle.reader.proofs.Wholes.{first-told, number-told, two-untold, two-ends, second-untold, two-goes-on}
 use Rattle.reader.proofs.Wholes.{two-formed, seeded-judged, bounded}

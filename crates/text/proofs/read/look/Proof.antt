@@ -2,7 +2,7 @@
 use borrow.Author.Needs.{needs}
 use mathlib.Core.Path.{sym, _∙_}
 use lib.ListN.{List·getD-eq-default}
-use Rattle.text.specs.Basics.{getD-any}
+use Rattle.runs.specs.Stores.{getD-any}
 use Rattle.text.specs.Fields.{NONE}
 use Rattle.text.proofs.read.look.Statement.{statement}
 use Rattle.text.proofs.read.look.Tie as tie
