@@ -30,6 +30,11 @@ pub enum Access {
 
 const LABEL_SIZE: usize = 16;
 
+// The letters of accesses.
+const READS: u64 = 114;
+
+const WRITES: u64 = 119;
+
 fn is_label_byte(b: u64) -> bool
     ensures { λ r. ⌜ r ≡ isLabelByte b ⌝ }
 {
@@ -110,10 +115,10 @@ pub fn read_access(text: &[u8], at: usize) -> Access
     ensures { λ r. ⌜ r ≡ asAccess at (fieldOf (drop at (now (text .entry)))) ⌝ }
 {
     let b = look(text, at);
-    if b == 114 {
+    if b == READS {
         return with_address(0, read_number(text, at + 1));
     }
-    if b == 119 {
+    if b == WRITES {
         return with_address(1, read_number(text, at + 1));
     }
     Access::Malformed

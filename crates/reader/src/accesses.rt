@@ -15,6 +15,11 @@ use super::line::either;
 use kept::layout;
 use refusals::Refusal;
 
+const MOST_ADDRESS: u64 = 65535;
+
+// More than four accesses are counted as so many.
+const TOO_MANY: usize = 5;
+
 // What is read of a task's accesses: how many, counted up to five, whether an address was out of range, and whether one came again. The
 // first four stand in the task's row.
 pub struct Accesses {
@@ -57,10 +62,10 @@ pub fn with_access(a: Accesses, row: &mut [u64], writes: u64, address: u64) -> A
         → Reads t (xs ++ access b address ∷ []) r (now (row .exit))) ⌝ }
 {
     let n = a.count;
-    let out = either(a.out, 65535 < address);
+    let out = either(a.out, MOST_ADDRESS < address);
     if layout::MOST_TASK_ACCESSES <= n {
         return Accesses {
-            count: 5,
+            count: TOO_MANY,
             out,
             again: a.again,
         };

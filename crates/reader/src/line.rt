@@ -18,6 +18,28 @@ use text::read::TAB;
 use text::read::look;
 use text::read::read_number;
 
+// The letters of the lines.
+const W: u64 = 87;
+
+const T: u64 = 84;
+
+const P: u64 = 80;
+
+const R: u64 = 82;
+
+const S: u64 = 83;
+
+// The ranges' ends.
+const MOST_WORKERS: u64 = 32;
+
+const MOST_COST: u64 = 1000;
+
+const MOST_PICKS: u64 = 4096;
+
+const MOST_ROUNDS: u64 = 1000000;
+
+const MOST_SEEDED: u64 = 1000000;
+
 // What a line is refused with.
 pub enum Fault {
     Nothing,
@@ -114,7 +136,7 @@ fn workers_line(text: &[u8], at: usize, sofar: Sofar) -> Line
                 kind: Kind::Workers,
                 first: value,
                 second: 0,
-                fault: first_fault(sofar.workers != 0, outside(1, 32, value)),
+                fault: first_fault(sofar.workers != 0, outside(1, MOST_WORKERS, value)),
                 next,
                 more: false,
             }
@@ -164,7 +186,7 @@ fn rounds_line(text: &[u8], at: usize, sofar: Sofar) -> Line
             if more {
                 return wrong();
             }
-            order_line(n, layout::IN_TURN, 0, outside(1, 1000000, n), sofar, next)
+            order_line(n, layout::IN_TURN, 0, outside(1, MOST_ROUNDS, n), sofar, next)
         }
     }
 }
@@ -196,7 +218,7 @@ fn picks_line(text: &[u8], at: usize, sofar: Sofar) -> Line
                     if more {
                         return wrong();
                     }
-                    let out = either(sofar.workers <= worker, outside(1, 4096, n));
+                    let out = either(sofar.workers <= worker, outside(1, MOST_PICKS, n));
                     order_line(n, worker, 0, out, sofar, next)
                 }
             }
@@ -231,7 +253,7 @@ fn seeded_line(text: &[u8], at: usize, sofar: Sofar) -> Line
                     if more {
                         return wrong();
                     }
-                    let out = either(!fits, outside(1, 1000000, n));
+                    let out = either(!fits, outside(1, MOST_SEEDED, n));
                     order_line(n, layout::BY_SEED, seed, out, sofar, next)
                 }
             }
@@ -283,7 +305,7 @@ fn task_line(text: &[u8], at: usize, sofar: Sofar, row: &mut [u64]) -> Line
                         kind: Kind::Task,
                         first: 0,
                         second: 0,
-                        fault: first_fault(misplaced, 1000 < cost),
+                        fault: first_fault(misplaced, MOST_COST < cost),
                         next,
                         more,
                     }
@@ -303,11 +325,11 @@ pub fn read_line(text: &[u8], at: usize, sofar: Sofar, row: &mut [u64]) -> Line
         return wrong();
     }
     match letter {
-        87 => workers_line(text, at + 2, sofar),
-        84 => task_line(text, at + 2, sofar, row),
-        80 => picks_line(text, at + 2, sofar),
-        82 => rounds_line(text, at + 2, sofar),
-        83 => seeded_line(text, at + 2, sofar),
+        W => workers_line(text, at + 2, sofar),
+        T => task_line(text, at + 2, sofar, row),
+        P => picks_line(text, at + 2, sofar),
+        R => rounds_line(text, at + 2, sofar),
+        S => seeded_line(text, at + 2, sofar),
         _ => wrong(),
     }
 }

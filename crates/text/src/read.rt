@@ -30,6 +30,11 @@ pub const TAB: u64 = 9;
 
 pub const LINE_FEED: u64 = 10;
 
+// The digits 0 and 9.
+const ZERO: u64 = 48;
+
+const NINE: u64 = 57;
+
 const LARGEST: u64 = 0xffff_ffff_ffff_ffff;
 // Below this, any digit can follow; this itself is followed by one up to 5.
 const SAFE: u64 = 1844674407370955161;
@@ -116,13 +121,13 @@ fn more_digits(text: &[u8], first: u64, from: usize) -> Number
     loop {
         let b = look(text, at);
         // a digit, the commonest byte, takes the fewest tests
-        if b < 48 {
+        if b < ZERO {
             return end_number(digits, b, at + 1);
         }
-        if 57 < b {
+        if NINE < b {
             return Number::Malformed;
         }
-        digits = with_digit(digits, b - 48);
+        digits = with_digit(digits, b - ZERO);
         at += 1;
     }
 }
@@ -133,18 +138,18 @@ pub fn read_number(text: &[u8], at: usize) -> Number
     ensures { λ r. ⌜ r ≡ asNumber at (fieldOf (drop at (now (text .entry)))) ⌝ }
 {
     let first = look(text, at);
-    if first == 48 {
+    if first == ZERO {
         let zero = Digits {
             value: 0,
             fits: true,
         };
         return end_number(zero, look(text, at + 1), at + 2);
     }
-    if first < 48 {
+    if first < ZERO {
         return Number::Malformed;
     }
-    if 57 < first {
+    if NINE < first {
         return Number::Malformed;
     }
-    more_digits(text, first - 48, at + 1)
+    more_digits(text, first - ZERO, at + 1)
 }
