@@ -186,7 +186,14 @@ fn rounds_line(text: &[u8], at: usize, sofar: Sofar) -> Line
             if more {
                 return wrong();
             }
-            order_line(n, layout::IN_TURN, 0, outside(1, MOST_ROUNDS, n), sofar, next)
+            order_line(
+                n,
+                layout::IN_TURN,
+                0,
+                outside(1, MOST_ROUNDS, n),
+                sofar,
+                next,
+            )
         }
     }
 }
