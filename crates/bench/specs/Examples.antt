@@ -2,6 +2,7 @@
 use Prim.Native.Nat.{ℕ, _^_, _-_}
 use Prim.Native.String.{String}
 use mathlib.Core.Path.{_≡_, refl}
+use mathlib.Core.Bool.{Bool, true, false}
 use mathlib.Core.List.{List, [], _∷_, map}
 use lib.ListN.{length}
 use Rattle.text.specs.Text.{bytes}
@@ -9,7 +10,8 @@ use Rattle.plan.specs.Reading.{Reading, accepted, refused, reading}
 use Rattle.plan.specs.Orders.{numbersFrom, picksUpTo}
 use Rattle.tasks.specs.Accesses.{accesses}
 use Rattle.tasks.specs.Flags.{flagNumber}
-use Rattle.orders.specs.Reached.{reached}
+use Rattle.machine.specs.Step.{finished}
+use Rattle.orders.specs.Reached.{setupOf, reached}
 use Rattle.bench.specs.Answer.{printed}
 use Rattle.bench.specs.Computed.{computed}
 
@@ -17,12 +19,16 @@ use Rattle.bench.specs.Computed.{computed}
 pub data Example : Type 0 where
   -- the program prints this
   prints : String → String → Example
-  -- the accesses have these flags in the end
-  sets : String → List ℕ → Example
+  -- it is finished in the end, and the accesses have these flags
+  ends : String → List ℕ → Example
   -- these workers are picked
   picks : String → List ℕ → Example
 
--- the flags after the whole order, and the picks of the order; none for a text that is refused
+-- whether the state after the whole order is finished, its flags, and the picks of the order; no and none for a text that is refused
+unfoldable pub finishedFor : Reading → Bool
+finishedFor (accepted p) = finished (setupOf p) (reached p (2 ^ 64 - 1))
+finishedFor (refused r n) = false
+
 unfoldable pub flagsFor : Reading → List ℕ
 flagsFor (accepted p) = map (λ a. flagNumber (reached p (2 ^ 64 - 1) .tasks .flags a)) (numbersFrom 0 (length (accesses (p .tasks))))
 flagsFor (refused r n) = []
@@ -33,7 +39,7 @@ picksFor (refused r n) = []
 
 abbrev pub Holds : Example → Type 0
 Holds (prints text answer) = printed (bytes text) ≡ bytes answer
-Holds (sets text flags) = flagsFor (reading (bytes text)) ≡ flags
+Holds (ends text flags) = (finishedFor (reading (bytes text)) ≡ true) × (flagsFor (reading (bytes text)) ≡ flags)
 Holds (picks text workers) = picksFor (reading (bytes text)) ≡ workers
 
 abbrev pub AllHold : List Example → Type 0
@@ -53,10 +59,10 @@ starred =
     ∷ picks "W\t4\nS\t0\t1\n" (2 ∷ [])
     ∷ prints "W\t1\nT\ta\t0\tr5\tr5\n" "X\t5\t2\n"
     ∷ prints "W\t1\nT\ta\t0\tr1\tr2\tr3\tr4\tr1\n" "X\t4\t2\n"
-    ∷ sets "W\t1\nT\ta\t0\tw5\nT\tb\t0\tr5\nR\t60\n" (63 ∷ 7 ∷ [])
+    ∷ ends "W\t1\nT\ta\t0\tw5\nT\tb\t0\tr5\nR\t60\n" (63 ∷ 7 ∷ [])
     ∷ []
 
 -- each of them holds, by computation
 pub examples : AllHold starred
-unfolding computed flagsFor picksFor
-examples = (refl, (refl, (refl, (refl, (refl, (refl, (refl, (refl, (refl, (refl, (refl, (refl, tt))))))))))))
+unfolding computed finishedFor flagsFor picksFor
+examples = (refl, (refl, (refl, (refl, (refl, (refl, (refl, (refl, (refl, (refl, (refl, ((refl, refl), tt))))))))))))

@@ -1,16 +1,19 @@
-// The bench: checks a plan text, and runs it. `specs/Answer.antt` says what both answer and what they leave in store and output.
+// The bench: checks a plan text, and runs it. `specs/Answer.antt` says what both answer and what they leave in store and output,
+// `specs/Told.antt` which number and values of the paper a run's answer is.
 ghost use mathlib.Core.Path.{_≡_};
 ghost use mathlib.Core.List.{_++_};
 ghost use Prim.Native.Nat.{_*_, _≤_};
 ghost use lib.ListN.{length, drop, replicate};
 ghost use Rattle.plan.specs.Reading.{reading};
+ghost use Rattle.reader.specs.Verdict.{told as toldCheck, toldOf as toldReading};
 ghost use Rattle.bench.specs.Answer.{textSize, storeSize, check as checks, played, run as runs};
+ghost use Rattle.bench.specs.Told.{told, toldOf};
 use kept::layout;
 use play::run_plan;
 use reader::Checked;
 use refusals::Refusal;
 
-pub mod play; // play.rt: a run of an accepted plan
+mod play; // play.rt: a run of an accepted plan
 
 // What a run gives: the picks taken and the report's length, or a refusal and its line, which is 0 if it is not the plan's.
 pub enum Answer {
@@ -32,7 +35,8 @@ const MANY_LINES: usize = 32768;
 
 // Checks a plan text.
 pub fn check(text: &[u8]) -> Checked
-    ensures { λ r. ⌜ r ≡ checks (now (text .entry)) ⌝ }
+    ensures answer { λ r. ⌜ r ≡ checks (now (text .entry)) ⌝ }
+    ensures told { λ r. ⌜ toldCheck r ≡ toldReading (reading (now (text .entry))) ⌝ }
 {
     reader::check(text)
 }
@@ -77,8 +81,9 @@ fn run_with(
 
 // Runs a plan text, with as many picks as the limit allows, and writes the report.
 pub fn run(text: &[u8], limit: u64, store: &mut [u64], output: &mut [u8]) -> Answer
-    ensures { λ r. ⌜ record { answer = r; store = now (store .exit); output = now (output .exit) }
+    ensures outcome { λ r. ⌜ record { answer = r; store = now (store .exit); output = now (output .exit) }
         ≡ runs limit (now (store .entry)) (now (output .entry)) (now (text .entry)) ⌝ }
+    ensures told { λ r. ⌜ told r ≡ toldOf limit (now (store .entry)) (now (output .entry)) (now (text .entry)) ⌝ }
 {
     if TEXT_SIZE < text.len() {
         return Answer::Refuses(Refusal::TextTooLong, 0);

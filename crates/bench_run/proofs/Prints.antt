@@ -1,11 +1,11 @@
 -- What a run leaves in an output that is long enough is what is to be printed. Assumes nothing.
 use Prim.Native.Nat.{ℕ, _+_, _-_, _^_, _≤_}
-use mathlib.Core.Path.{_≡_, refl, ap, _∙_}
+use mathlib.Core.Path.{_≡_, refl, sym, ap, _∙_}
 use mathlib.Core.Bool.{Bool, true, false}
 use mathlib.Core.List.{List, _++_}
 use native.Mathlib.Omega.{arith}
 use lib.ListN.{length, take, drop, length-append}
-use lib.Seq.{sets-eq, take-append-seam}
+use lib.Seq.{sets-eq, take-at, drop-at}
 use borrow.Author.Tests.{le-ltb}
 use Rattle.refusals.specs.declared.Refusal.{Refusal}
 use Rattle.refusals.specs.declared.Refusal.the-variants.{TextTooLong}
@@ -64,30 +64,39 @@ module _ (store output text : List ℕ) where
       go true e = rw (run-long e, reading-long e) (refl, refl)
       go false e = rw (run-read e h) (played-prints (reading text) (λ p q. omega (arith, accepted-short text p q noLimit)))
 
--- the first n bytes of an output are bs
-abbrev Begins : ℕ → List ℕ → List ℕ → Type 0
-Begins n bs after = ((n ≤ length after) × (n ≡ length (take n after))) × (take n after ≡ bs)
+-- the first n bytes of an output are bs, and the later ones as they were
+abbrev Front : ℕ → List ℕ → List ℕ → List ℕ → Type 0
+Front n bs output after = ((n ≤ length after) × (n ≡ length (take n after))) × ((take n after ≡ bs) × (drop n after ≡ drop n output))
 
-begins : (n : ℕ) (bs after rest : List ℕ) → n ≡ length bs → after ≡ bs ++ rest → Begins n bs after
-begins n bs after rest e q =
-    let first : take n after ≡ bs = rw (e, q) (take-append-seam bs rest) in
-    ((omega (arith, ap length q, length-append bs rest), rw first e), first)
+front : (n : ℕ) (bs output after : List ℕ) → n ≡ length bs → after ≡ bs ++ drop n output → Front n bs output after
+front n bs output after e q =
+    let first : take n after ≡ bs = rw q (take-at bs (drop n output) n (sym e)) in (
+      (omega (arith, ap length q, length-append bs (drop n output)), rw first e),
+      (first, rw q (drop-at bs (drop n output) n (sym e))),
+    )
 
 module _ (store output text : List ℕ) (h : storeSize ≤ length store) (k : longest ≤ length output) (a : Answer) (left after : List ℕ)
     (e : record { answer = a; store = left; output = after } ≡ run noLimit store output text) where
   ended : Prints (printed text) output a after
   ended = rw (← e) at (run-prints store output text h k)
 
-  pub reports : (picks n : ℕ) → a ≡ Reports picks n → Begins n (printed text) after
+  -- the store is as the run leaves it; n bytes at the front of the last output are to be printed
+  abbrev Answered : ℕ → List ℕ → Type 0
+  Answered n last = (left ≡ run noLimit store output text .store) × Front n (printed text) output last
+
+  answered : (n : ℕ) (last : List ℕ) → n ≡ length (printed text) → last ≡ printed text ++ drop n output → Answered n last
+  answered n last p q = (ap (λ (o : Outcome). o .store) e, front n (printed text) output last p q)
+
+  pub reports : (picks n : ℕ) → a ≡ Reports picks n → Answered n after
   reports picks n q =
       let (x, y) : Prints (printed text) output (Reports picks n) after = rw q at ended in
-      begins n (printed text) after (drop (length (printed text)) output) x y
+      answered n after x (rw x y)
 
   pub refuses : (r : Refusal) (n : ℕ) → a ≡ Refuses r n → (end : ℕ) (last : List ℕ)
       → Wrote after 0 (fields (refusalFields (number r) n)) end last
-      → end ≤ 0 + 25 → Begins end (printed text) last
+      → end ≤ 0 + 25 → Answered end last
   refuses r n q end last w short =
       let (x, y) : Prints (printed text) output (Refuses r n) after = rw q at ended in
       let bs = line (refusalFields (number r) n) in
       let stored = w .stores ∙ sets-eq bs after 0 (omega (arith, w .place, ap length y)) in
-      rw x at (begins end bs last (drop (0 + length bs) after) (omega (arith, w .place)) stored)
+      answered end last (omega (arith, w .place, ap length x)) (rw (w .place, ← x, ← y) stored)

@@ -3,7 +3,7 @@ use answer::answer;
 use libc::STDIN_FILENO;
 use libc::STDOUT_FILENO;
 
-pub mod answer; // answer.rt: what is printed for a text
+mod answer; // answer.rt: what is printed for a text
 
 fn main() {
     // one byte more than a plan may have, so that a longer text is refused and not cut

@@ -1,10 +1,11 @@
 -- What the public functions answer, by what a text comes to.
 use Prim.Native.Nat.{ℕ}
-use mathlib.Core.Path.{_≡_}
-use mathlib.Core.List.{List}
+use mathlib.Core.Path.{_≡_, refl}
+use mathlib.Core.List.{List, [], _∷_}
 use lib.ListN.{length}
 use lib.Seq.{sets}
 use Rattle.refusals.specs.declared.Refusal.{Refusal}
+use Rattle.refusals.specs.Number.{number}
 use Rattle.plan.specs.Plan.{Plan}
 use Rattle.plan.specs.Reading.{Reading, accepted, refused}
 use Rattle.kept.specs.Tasks.{KeepsTasks}
@@ -17,6 +18,29 @@ use Rattle.reader.specs.declared.ReadPlan.{ReadPlan}
 abbrev pub verdict : Reading → Checked
 verdict (accepted p) = Accepted
 verdict (refused r line) = Refused r line
+
+-- an answer by the paper's number, 0 where nothing is refused, and the values that go with it
+pub record Told : Type 0 where
+  pub number : ℕ
+  pub values : List ℕ
+
+-- a refusal's only value is its line
+abbrev pub toldRefusal : Refusal → ℕ → Told
+toldRefusal r line = record { number = number r; values = line ∷ [] }
+
+-- that of a check
+abbrev pub told : Checked → Told
+told Accepted = record { number = 0; values = [] }
+told (Refused r line) = toldRefusal r line
+
+-- what is to be told of a text
+abbrev pub toldOf : Reading → Told
+toldOf (accepted p) = record { number = 0; values = [] }
+toldOf (refused r line) = toldRefusal r line
+
+pub told-verdict : (x : Reading) → told (verdict x) ≡ toldOf x
+told-verdict (accepted p) = refl
+told-verdict (refused r line) = refl
 
 abbrev pub noPlan : Refusal → ℕ → ReadPlan
 noPlan refusal line = record { checked = Refused refusal line; workers = 0; tasks = 0; orders = 0 }

@@ -7,7 +7,7 @@ ghost use Rattle.plan.specs.Reading.{reading};
 ghost use Rattle.kept.specs.Layout as lay;
 ghost use Rattle.reader.specs.Keeping.{judged, Keeps};
 ghost use Rattle.reader.specs.Lines.{Sums};
-ghost use Rattle.reader.specs.Verdict.{verdict, noPlan, lent, Gives};
+ghost use Rattle.reader.specs.Verdict.{verdict, told, toldOf, noPlan, lent, Gives};
 use accesses::Accesses;
 use accesses::judge_task;
 use accesses::no_accesses;
@@ -175,7 +175,8 @@ pub fn read(text: &[u8], rows: &mut [u64], orders: &mut [u64]) -> ReadPlan
 
 // Checks a plan text: nothing is kept.
 pub fn check(text: &[u8]) -> Checked
-    ensures { λ r. ⌜ r ≡ verdict (reading (now (text .entry))) ⌝ }
+    ensures answer { λ r. ⌜ r ≡ verdict (reading (now (text .entry))) ⌝ }
+    ensures told { λ r. ⌜ told r ≡ toldOf (reading (now (text .entry))) ⌝ }
 {
     let mut none = [0u64; 1];
     let mut no_orders = [0u64; 1];

@@ -19,10 +19,12 @@ number-of-requires : tie.Need-number-of-requires
 number-of-requires c κs = search needs
 
 returns : tie.Need-returns
-returns c = ap checkedNumbers (sym (c .enum-told .given .1) ∙ c .before .before .check .ensures)
+returns c = ap checkedNumbers (sym (c .enum-told .given .1) ∙ c .before .before .check .ensures .0)
 
 returns-2 : tie.Need-returns-2
-returns-2 c = rw (c .number-of .ensures) (ap checkedNumbers (sym (c .before .before .checked .given .1) ∙ c .before .before .before .before .check .ensures))
+returns-2 c =
+    let answer = c .before .before .before .before .check .ensures .0 in
+    rw (c .number-of .ensures) (ap checkedNumbers (sym (c .before .before .checked .given .1) ∙ answer))
 
 pub salfunye-check-spec : {M : Type 1} → statement M
 salfunye-check-spec =

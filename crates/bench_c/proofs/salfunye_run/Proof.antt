@@ -1,11 +1,15 @@
 -- `bench_c::salfunye_run` meets its contract: by the two answers.
 -- Assumes nothing.
-use mathlib.Core.Path.{sym, ap, _∙_}
+use mathlib.Core.Path.{_≡_, sym, ap, _∙_}
 use Rattle.bench.specs.Answer.{Outcome}
 use Rattle.bench_c.specs.Numbers.{ranNumbers}
 use borrow.Author.Needs.{needs}
 use Rattle.bench_c.proofs.salfunye_run.Statement.{statement}
 use Rattle.bench_c.proofs.salfunye_run.Tie as tie
+
+-- what is left in store and output
+left : {o p : Outcome} → o ≡ p → (o .store ≡ p .store) × (o .output ≡ p .output)
+left e = (ap (λ (o : Outcome). o .store) e, ap (λ (o : Outcome). o .output) e)
 
 run-requires : tie.Need-run-requires
 run-requires c κs = search needs
@@ -27,8 +31,8 @@ same-length-2 c = search needs
 
 returns : tie.Need-returns
 returns c =
-    let ran = c .before .before .before .before .before .before .before .run .ensures in
-    (ap ranNumbers (sym (c .before .answer .given .1) ∙ ap (λ (o : Outcome). o .answer) ran), (ap (λ (o : Outcome). o .store) ran, ap (λ (o : Outcome). o .output) ran))
+    let ran = c .before .before .before .before .before .before .before .run .ensures .0 in
+    (ap ranNumbers (sym (c .before .answer .given .1) ∙ ap (λ (o : Outcome). o .answer) ran), left ran)
 
 same-length-3 : tie.Need-same-length-3
 same-length-3 c = search needs
@@ -38,8 +42,9 @@ same-length-4 c = search needs
 
 returns-2 : tie.Need-returns-2
 returns-2 c =
-    let ran = c .before .before .before .before .before .before .before .before .run .ensures in
-    (rw (c .number-of .ensures) (ap ranNumbers (sym (c .before .before .answer2 .given .1) ∙ ap (λ (o : Outcome). o .answer) ran)), (ap (λ (o : Outcome). o .store) ran, ap (λ (o : Outcome). o .output) ran))
+    let ran = c .before .before .before .before .before .before .before .before .run .ensures .0 in
+    let told = ap ranNumbers (sym (c .before .before .answer2 .given .1) ∙ ap (λ (o : Outcome). o .answer) ran) in
+    (rw (c .number-of .ensures) told, left ran)
 
 pub salfunye-run-spec : {M : Type 1} → statement M
 salfunye-run-spec =

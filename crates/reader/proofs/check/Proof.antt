@@ -1,8 +1,9 @@
 -- `reader::check` meets its contract: nothing is lent to `read`. Assumes nothing.
+use mathlib.Core.Path.{ap, _∙_}
 use mathlib.Core.List.{[]}
 use borrow.Author.Needs.{needs}
 use Rattle.plan.specs.Reading.{reading}
-use Rattle.reader.specs.Verdict.{lent}
+use Rattle.reader.specs.Verdict.{told, lent, told-verdict}
 use Rattle.reader.proofs.Turns.{gives-checked}
 use Rattle.reader.proofs.check.Statement.{statement}
 use Rattle.reader.proofs.check.Tie as tie
@@ -25,8 +26,10 @@ read-requires c κs = search needs
 returns : tie.Need-returns
 returns c =
     let text = c .before .before .before .before .before .before .args .text .now in
-    let after = lent (c .before .before .read .last .1 .0) (c .before .before .read .last .1 .1 .0) in
-    gives-checked text (lent [] []) after (c .before .before .read .result) (reading text) (c .before .before .read .ensures)
+    let read = c .before .before .read in
+    let after = lent (read .last .1 .0) (read .last .1 .1 .0) in
+    let answer = gives-checked text (lent [] []) after (read .result) (reading text) (read .ensures) in
+    (answer, ap told answer ∙ told-verdict (reading text))
 
 pub check-spec : {M : Type 1} → statement M
 check-spec =

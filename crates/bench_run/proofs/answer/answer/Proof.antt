@@ -27,7 +27,7 @@ returns c =
     let running = c .before .before .before .before .before .before .before in
     let call = running .before .before .before .before .before .before in
     reports (call .args .store .now) (call .args .output .now) (call .args .text .now) (call .pre .0) (call .pre .1) _ _ _
-    (running .run .ensures) _ _ (c .before .ran .given .1)
+    (running .run .ensures .0) _ _ (c .before .ran .given .1)
 
 same-length-3 : tie.Need-same-length-3
 same-length-3 c = search needs
@@ -42,7 +42,7 @@ returns-2 c =
     let running = ran .before .before .before .before .before .before in
     let call = running .before .before .before .before .before .before in
     refuses (call .args .store .now) (call .args .output .now) (call .args .text .now) (call .pre .0) (call .pre .1) _ _ _
-    (running .run .ensures) _ _ (ran .ran2 .given .1) _ _ (putting .put-refusal .ensures .0) (putting .put-refusal .ensures .1)
+    (running .run .ensures .0) _ _ (ran .ran2 .given .1) _ _ (putting .put-refusal .ensures .0) (putting .put-refusal .ensures .1)
 
 pub answer-spec : {M : Type 1} → statement M
 answer-spec =
