@@ -1,6 +1,7 @@
 -- A history of two workers in which every operation comes, so that no guard is out of reach: worker 1 owns the lock and serves worker 0,
 -- who receives; then worker 0 tries the free lock.
 use mathlib.Core.Path.{_≡_, refl}
+use mathlib.Core.Bool.{true, false}
 use mathlib.Core.List.{List, [], _∷_}
 use mathlib.Core.Option.{none, some}
 use Prim.Native.Nat.{ℕ, _+_, _%_}
@@ -56,3 +57,8 @@ with r = record { head = 10; tail = 8; wait = λ k. 4 + k % 4; registration = λ
 pub seen : (front 4 (with 8) ≡ some 0) × (front 4 (with 5) ≡ none) × (look 4 (with 8) 7 1 ≡ owns) × (look 4 (with 8) 8 0 ≡ notYet)
 unfolding turn front workerIn look
 seen = (refl, refl, refl, refl)
+
+-- a hand-over lets in the tail and no later ticket, even in a ring of one slot
+pub let-in : (turn 1 (handOver 1 (with 8)) 8 ≡ true) × (turn 1 (handOver 1 (with 8)) 9 ≡ false)
+unfolding upd turn handOver
+let-in = (refl, refl)

@@ -3,14 +3,21 @@ use Prim.Native.Nat.{ℕ}
 use mathlib.Core.Path.{_≡_, refl}
 use mathlib.Core.Bool.{true, false}
 use mathlib.Core.List.{List, [], _∷_, _++_, map}
+use mathlib.Core.Option.{Option, none, some}
 use lib.ListN.{length, replicate}
+use lib.Dec.{eqb}
+use Rattle.runs.specs.Counts.{is}
+use Rattle.runs.specs.Traces as Traces
 use Rattle.plan.specs.Plan.{Access, Task}
 use Rattle.plan.specs.Orders.{numbersFrom}
 use Rattle.tasks.specs.Accesses.{accesses}
 use Rattle.tasks.specs.Flags.{flagNumber}
 use Rattle.tasks.specs.Tasks.{Status, waiting, ready, held, running, over}
-use Rattle.machine.specs.State.{Setup, State}
+use Rattle.machine.specs.State.{Setup, forServing, Place, idle, trying, looking, draining, handing, State, start}
+use Rattle.machine.specs.Event.{Event}
 use Rattle.machine.specs.Step.{after}
+use Rattle.machine.specs.Trace.{Happening, trace, isReceipt, isEnding, isHandOver}
+use Rattle.machine.specs.Whereabouts.{owner}
 use Rattle.machine.specs.Computing.{computing}
 
 -- a task of no cost
@@ -84,8 +91,112 @@ moments =
     ∷ record { setup = two; picks = replicate 9 0 ++ 1 ∷ 0 ∷ 0 ∷ 0 ∷ 0 ∷ []; statuses = running ∷ ready ∷ []; flags = [] }
     -- of two workers one is served in a session: the waiter is back, and the owner takes the next task itself
     ∷ record { setup = two; picks = untilFilled ++ 0 ∷ 1 ∷ 1 ∷ 1 ∷ 1 ∷ 0 ∷ []; statuses = over ∷ running ∷ []; flags = [] }
+    -- mailbox comes before adding: the second reader's message is delivered while the first reader is to be added
+    ∷ record {
+      setup = with 1 (free (writes 5 ∷ writes 6 ∷ []) ∷ free (reads 5 ∷ []) ∷ free (reads 6 ∷ []) ∷ []);
+      picks = replicate 27 0;
+      statuses = over ∷ ready ∷ ready ∷ [];
+      flags = 63 ∷ 15 ∷ 3 ∷ 3 ∷ [];
+    }
     ∷ []
 
 pub played : Matches moments
 unfolding computing statusesOf flagsOf
-played = (refl, refl, (refl, refl, (refl, refl, (refl, refl, (refl, refl, (refl, refl, (refl, refl, tt)))))))
+played = (refl, refl, (refl, refl, (refl, refl, (refl, refl, (refl, refl, (refl, refl, (refl, refl, (refl, refl, tt))))))))
+
+-- ---- where workers and tasks are
+
+-- what is played, the picks up to it, and then the workers' places, their queues, the ready list, and who owns the lock
+pub record Standing : Type 0 where
+  pub setup : Setup
+  pub picks : List ℕ
+  pub places : List Place
+  pub queues : List (List ℕ)
+  pub readyList : List ℕ
+  pub owner : Option ℕ
+
+abbrev pub Stands : List Standing → Type 0
+Stands [] = Unit {0}
+Stands (m ∷ ms) =
+    (map (after (m .setup) (m .picks) .place) (numbersFrom 0 (m .setup .workers)) ≡ m .places)
+    × (map (after (m .setup) (m .picks) .queue) (numbersFrom 0 (m .setup .workers)) ≡ m .queues)
+    × (after (m .setup) (m .picks) .readyList ≡ m .readyList)
+    × (owner (m .setup) (after (m .setup) (m .picks)) ≡ m .owner)
+    × Stands ms
+
+abbrev pub three : Setup
+three = with 2 (free [] ∷ free [] ∷ free [] ∷ [])
+
+-- queues of one task
+abbrev pub narrow : Setup
+narrow = record { workers = 2; slots = 64; capacity = 1; tasks = free [] ∷ free [] ∷ [] }
+
+abbrev pub standings : List Standing
+standings =
+    -- the oldest task first: in the queue
+    record {
+      setup = two;
+      picks = replicate 6 0;
+      places = idle ∷ idle ∷ [];
+      queues = (0 ∷ 1 ∷ []) ∷ [] ∷ [];
+      readyList = [];
+      owner = none;
+    }
+    -- drained into the end of the ready list, one whole queue a step
+    ∷ record {
+      setup = three;
+      picks = replicate 6 0 ++ replicate 8 1 ++ replicate 3 0 ++ replicate 4 1;
+      places = idle ∷ draining forServing 1 ∷ [];
+      queues = [] ∷ [] ∷ [];
+      readyList = 1 ∷ 2 ∷ [];
+      owner = some 1;
+    }
+    -- a full queue: the second task isn't pushed, and the next step tries the lock
+    ∷ record {
+      setup = narrow;
+      picks = replicate 6 0;
+      places = trying ∷ idle ∷ [];
+      queues = (0 ∷ []) ∷ [] ∷ [];
+      readyList = [];
+      owner = none;
+    }
+    -- the lock isn't free: it takes no ticket, and pushes again
+    ∷ record {
+      setup = narrow;
+      picks = replicate 3 1 ++ replicate 7 0;
+      places = idle ∷ draining forServing 0 ∷ [];
+      queues = (0 ∷ []) ∷ [] ∷ [];
+      readyList = [];
+      owner = some 1;
+    }
+    -- a worker whose turn it isn't waits on; the owner that serves it is owner until it leaves
+    ∷ record {
+      setup = two;
+      picks = untilFilled ++ 1 ∷ [];
+      places = handing 0 ∷ looking 65 ∷ [];
+      queues = [] ∷ [] ∷ [];
+      readyList = 1 ∷ [];
+      owner = some 0;
+    }
+    ∷ []
+
+pub stood : Stands standings
+unfolding computing owner
+stood = (refl, refl, refl, refl, (refl, refl, refl, refl, (refl, refl, refl, refl, (refl, refl, refl, refl, (refl, refl, refl, refl, tt)))))
+
+-- ---- who does what
+
+-- the workers by whom something happens, in the order in which it does
+unfoldable pub doers : (Event → ℕ) → List Happening → List ℕ
+doers f [] = []
+doers f (h ∷ hs) = elim (eqb (f (h .what)) 0) [ true ↦ doers f hs | false ↦ h .by ∷ doers f hs ]
+
+abbrev pub whole : List Happening
+whole = trace two (start two) (untilFilled ++ 0 ∷ 1 ∷ 1 ∷ replicate 4 0)
+
+-- worker 0 puts task 0 into the cell of worker 1 and takes task 1 itself: each task has its receipt and its ending by one worker, and both
+-- hand-overs are by the owner, the one with which it stays and the one with which it leaves
+pub done-by : (doers (isReceipt 0) whole ≡ 1 ∷ []) × (doers (isEnding 0) whole ≡ 1 ∷ []) × (doers (isReceipt 1) whole ≡ 0 ∷ [])
+    × (doers (isEnding 1) whole ≡ 0 ∷ []) × (doers isHandOver whole ≡ 0 ∷ 0 ∷ [])
+unfolding computing Traces.trace doers is
+done-by = (refl, refl, refl, refl, refl)

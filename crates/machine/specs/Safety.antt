@@ -9,11 +9,12 @@ pub mod Invariant
 pub mod Histories
 pub mod Turns
 pub mod Bounds
+pub mod Flags
 use Prim.Native.Nat.{ℕ, suc, _+_, _-_, _≤_, _<_}
 use native.Mathlib.Omega.{arith}
 use mathlib.Core.Path.{_≡_, refl, sym, ap, _∙_}
 use mathlib.Core.Logic.{_⊎_, inl, inr, ⊎-elim}
-use mathlib.Core.Bool.{true}
+use mathlib.Core.Bool.{true, false}
 use mathlib.Core.List.{List, [], _∷_, _++_}
 use mathlib.Core.Option.{Option, none, some}
 use lib.ListN.{length, getElem?}
@@ -22,9 +23,11 @@ use Rattle.runs.specs.Picks.{Picks, run-append}
 use Rattle.lock.specs.History.{Owner}
 use Rattle.lock.specs.Promise as Lock
 use Rattle.tasks.specs.Accesses.{taskAt, conflict}
-use Rattle.tasks.specs.Tasks.{ready, held, running, over, opening, isReady, isHeld, isRunning, pastWaiting, isReceived, isEnded}
+use Rattle.tasks.specs.Tasks.{ready, held, running, over, Creation, opening, Created, isReady, isHeld, isRunning, pastWaiting, isReceived}
+use Rattle.tasks.specs.Tasks.{isEnded}
 use Rattle.tasks.specs.History as H
 use Rattle.tasks.specs.Playing as P
+use Rattle.tasks.specs.Playing.{hasNotice}
 use Rattle.tasks.specs.Promise as Promise
 use Rattle.machine.specs.State.{Setup, State, start}
 use Rattle.machine.specs.Event.{Event, event}
@@ -116,13 +119,20 @@ module _ (c : Setup) (playable : Playable c) (ws : List ℕ) (p : Picks (c .work
   starts-in-order i j l b e w k r =
       in-order i j l b e (receipt-status c (after c ws) (inv-after c playable ws p) w k (does c (after c ws) w) j r)
 
-  -- where all tasks are created, every mailbox is empty and no task is ready, held or run, every task is over: nothing gets stuck
-  pub nothing-stuck : (n : ℕ) → (after c ws) .tasks .creation ≡ opening n → length (c .tasks) ≤ n
-      → ((w : ℕ) → w < c .workers → (after c ws) .tasks .mail w ≡ [])
+  -- where all tasks are created, no message and no notice is pending, and no task is ready, held or run, every task is over, and so
+  -- the state is finished: nothing gets stuck
+  pub nothing-stuck : Created (c .tasks) ((after c ws) .tasks .creation)
+      → ((w : ℕ) → w < c .workers → ((after c ws) .tasks .mail w ≡ []) × (hasNotice ((after c ws) .stand w) ≡ false))
       → ((i : ℕ) → i < length (c .tasks)
       → isReady ((after c ws) .tasks .status i) + isHeld ((after c ws) .tasks .status i) + isRunning ((after c ws) .tasks .status i) ≡ 0)
-      → (i : ℕ) → i < length (c .tasks) → (after c ws) .tasks .status i ≡ over
-  nothing-stuck = Promise.nothing-stuck (inv-after c playable ws p .tasked)
+      → ((i : ℕ) → i < length (c .tasks) → (after c ws) .tasks .status i ≡ over) × (finished c (after c ws) ≡ true)
+  nothing-stuck created silent still = go ((after c ws) .tasks .creation) refl created
+    where
+      go : (x : Creation) → (after c ws) .tasks .creation ≡ x → Created (c .tasks) x
+          → ((i : ℕ) → i < length (c .tasks) → (after c ws) .tasks .status i ≡ over) × (finished c (after c ws) ≡ true)
+      go (opening n) e l =
+          let all = Promise.nothing-stuck (inv-after c playable ws p .tasked) n e l (λ w b. (silent w b) .0) still in
+          (all, P.finished-if (c .workers) (c .tasks) ((after c ws) .tasks) ((after c ws) .stand) all silent)
 
   -- the picks counted are the events of the trace, and no more than the list has
   pub picks-counted : ((after c ws) .picks ≡ length (trace c (start c) ws)) × (length (trace c (start c) ws) ≤ length ws)

@@ -4,6 +4,7 @@ use mathlib.Core.List.{List}
 use mathlib.Core.Option.{Option, none, some}
 use Rattle.runs.specs.Traces as Traces
 use Rattle.lock.specs.History as LH
+use Rattle.tasks.specs.Flags.{Flags}
 use Rattle.tasks.specs.Playing as P
 use Rattle.machine.specs.State.{Setup, State}
 use Rattle.machine.specs.Event.{Event, event}
@@ -25,6 +26,10 @@ isReceipt = P.isReceipt taskOp
 
 abbrev pub isEnding : ℕ → Event → ℕ
 isEnding = P.isEnding taskOp
+
+-- of a flag, what comes to access a by a delivery or a notice
+abbrev pub brings : (Flags → ℕ) → ℕ → Event → ℕ
+brings = P.brings taskOp
 
 abbrev pub byLock : (LH.Op → ℕ) → Option LH.Op → ℕ
 byLock f none = 0

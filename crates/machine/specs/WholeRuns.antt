@@ -103,8 +103,9 @@ module _ (c : Setup) (playable : Playable c) (ws : List ℕ) (p : Picks (c .work
 
     turn-of : (L.turn (c .slots) ((after c ws) .lock) t ≡ true) ↔ (distanceOf r ≤ tally isHandOver (trace c (registered r) (r .since)))
     turn-of =
-        rw reached
-        (T.turn-exactly c (playable .workers) (playable .ring) (r .before) picks-before w t worker (r .registering) (r .since) picks-since)
+        let (come, due) =
+        T.turn-exactly c (playable .workers) (playable .ring) (r .before) picks-before w t worker (r .registering) (r .since) picks-since in
+        rw reached (λ e. omega (arith, come e), λ l. due (omega arith))
 
     waits : (registered r) .place w ≡ looking t
     unfolding step
@@ -138,10 +139,12 @@ module _ (c : Setup) (playable : Playable c) (ws : List ℕ) (p : Picks (c .work
         in-order = S.in-order c playable ws p;
         turn = turn-of;
         waiting = λ B g w t r. waiting-of w t r B g;
+        -- the premise gives each worker below W among every B picks
         finishing = λ B g l.
-            let e = finishing-figure c playable B ws p g l in (
+            let each : Regular (c .workers) B ws = λ i w k b. g i w k (omega arith) in
+            let e = finishing-figure c playable B ws p each l in (
               e,
-              finishing-picks c playable B ws p g l,
+              finishing-picks c playable B ws p each l,
               λ i b. S.run-by-one c playable ws p i (P.all-over (c .workers) (c .tasks) ((after c ws) .tasks) ((after c ws) .stand) e i b),
             );
         at-once = finished-at-once c;

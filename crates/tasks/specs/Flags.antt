@@ -27,6 +27,18 @@ DONE = record { read = 0; write = 0; done = 1; next = 0; sentRead = 0; sentWrite
 abbrev pub NEXT : Flags
 NEXT = record { read = 0; write = 0; done = 0; next = 1; sentRead = 0; sentWrite = 0 }
 
+-- the flags that are so many of each
+abbrev pub each : ((Flags → ℕ) → ℕ) → Flags
+each many =
+    record {
+      read = many (λ f. f .read);
+      write = many (λ f. f .write);
+      done = many (λ f. f .done);
+      next = many (λ f. f .next);
+      sentRead = many (λ f. f .sentRead);
+      sentWrite = many (λ f. f .sentWrite);
+    }
+
 -- the SENT flags of the flags that were passed
 abbrev pub sent : Flags → Flags
 sent f = record { read = 0; write = 0; done = 0; next = 0; sentRead = f .read; sentWrite = f .write }

@@ -209,6 +209,27 @@ isEnding i (holds j) = 0
 isEnding i (takes j) = 0
 isEnding i (receives j) = 0
 
+-- x where a and b are equal, else 0
+unfoldable pub here : ℕ → ℕ → ℕ → ℕ
+here a b x = elim (eqb a b) [ true ↦ x | false ↦ 0 ]
+
+-- of a flag, what comes to access a: by a delivery, and by a notice
+abbrev broughtBy : (Flags → ℕ) → ℕ → Duty → ℕ
+broughtBy flag a (opens i) = 0
+broughtBy flag a (links i b) = 0
+broughtBy flag a (closes i) = 0
+broughtBy flag a (delivers m ms) = here a (m .to) (flag (m .flags))
+broughtBy flag a (tells b f) = here a b (flag (sent f))
+broughtBy flag a (works i n) = 0
+broughtBy flag a (ends i) = 0
+
+abbrev pub brings : (Flags → ℕ) → ℕ → Op → ℕ
+brings flag a (minds d) = broughtBy flag a d
+brings flag a (gives i is) = 0
+brings flag a (holds i) = 0
+brings flag a (takes i) = 0
+brings flag a (receives i) = 0
+
 -- 1 where any task is given to the device
 abbrev pub isGive : Op → ℕ
 isGive op = dealing (alike give) (λ j. 1) (deals op)

@@ -15,3 +15,4 @@ pub mod Stories
 pub mod Work
 pub mod Lists
 pub mod Histories
+pub mod Brought

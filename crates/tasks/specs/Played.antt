@@ -2,12 +2,13 @@
 -- a list of the tasks that it was given, from which a worker takes the first.
 use Prim.Native.Nat.{ℕ}
 use mathlib.Core.Path.{_≡_, refl}
-use mathlib.Core.Bool.{true, false}
+use mathlib.Core.Bool.{Bool, true, false}
 use mathlib.Core.List.{List, [], _∷_, _++_, map}
 use mathlib.Core.Option.{Option, none, some}
 use lib.ListN.{length, replicate}
 use Rattle.runs.specs.Update.{upd}
 use Rattle.runs.specs.Picks.{run}
+use Rattle.runs.specs.Below.{everyBelow}
 use Rattle.plan.specs.Plan.{Access, Task}
 use Rattle.plan.specs.Orders.{numbersFrom}
 use Rattle.runs.specs.Searches.{lastBelow, firstFrom}
@@ -18,6 +19,7 @@ use Rattle.tasks.specs.Tasks as T
 use Rattle.tasks.specs.History.{Duty, Op, minds, gives, holds, takes, receives, lowered, linkMessage, passed, doneMessages, after}
 use Rattle.tasks.specs.History.{standAfter}
 use Rattle.tasks.specs.Duties.{duty, creating}
+use Rattle.tasks.specs.Playing.{finished}
 
 pub record State : Type 0 where
   pub tasks : Tasks
@@ -90,16 +92,24 @@ readThenWrite = costless (reads 5 ∷ []) ∷ costless (writes 5 ∷ []) ∷ []
 abbrev pub writeThenRead : List Task
 writeThenRead = costless (writes 5 ∷ []) ∷ costless (reads 5 ∷ []) ∷ []
 
--- after so many turns of worker 0: what has become of the tasks, the flags of the accesses by their numbers, and what the device has
+abbrev pub readTwice : List Task
+readTwice = costless (reads 5 ∷ []) ∷ costless (reads 5 ∷ []) ∷ []
+
+abbrev pub writeThenTwoRead : List Task
+writeThenTwoRead = costless (writes 5 ∷ writes 6 ∷ []) ∷ costless (reads 5 ∷ []) ∷ costless (reads 6 ∷ []) ∷ []
+
+-- after the turns of two workers: what has become of the tasks, the flags of the accesses by their numbers, what the device has, and
+-- whether they are finished
 pub record Moment : Type 0 where
   pub tasks : List Task
-  pub turns : ℕ
+  pub turns : List ℕ
   pub statuses : List Status
   pub flags : List ℕ
   pub stored : List ℕ
+  pub finished : Bool
 
-unfoldable pub played : List Task → ℕ → State
-played ts n = run (step ts) start (replicate n 0)
+unfoldable pub played : List Task → List ℕ → State
+played ts ws = run (step ts) start ws
 
 module _ (ts : List Task) (s : State) where
   unfoldable pub statusesOf : List Status
@@ -114,22 +124,113 @@ Matches (m ∷ ms) =
     (statusesOf (m .tasks) (played (m .tasks) (m .turns)) ≡ m .statuses)
     × (flagsOf (m .tasks) (played (m .tasks) (m .turns)) ≡ m .flags)
     × (played (m .tasks) (m .turns) .stored ≡ m .stored)
+    × (finished 2 (m .tasks) (played (m .tasks) (m .turns) .tasks) (played (m .tasks) (m .turns) .stands) ≡ m .finished)
     × Matches ms
+
+-- worker 0 creates both readers and ends the first, worker 1 ends the second, and the message that passes WRITE on is delivered
+abbrev pub untilNotice : List ℕ
+untilNotice = replicate 13 0 ++ 1 ∷ 1 ∷ 1 ∷ 0 ∷ 0 ∷ 0 ∷ []
 
 abbrev pub moments : List Moment
 moments =
     -- the first task was given to the device; READ has come to the later writer, WRITE has not
-    record { tasks = readThenWrite; turns = 11; statuses = ready ∷ waiting ∷ []; flags = 27 ∷ 1 ∷ []; stored = 0 ∷ [] }
+    record {
+      tasks = readThenWrite;
+      turns = replicate 11 0;
+      statuses = ready ∷ waiting ∷ [];
+      flags = 27 ∷ 1 ∷ [];
+      stored = 0 ∷ [];
+      finished = false;
+    }
     -- the reader runs, and the writer waits
-    ∷ record { tasks = readThenWrite; turns = 12; statuses = running ∷ waiting ∷ []; flags = 27 ∷ 1 ∷ []; stored = [] }
+    ∷ record {
+      tasks = readThenWrite;
+      turns = replicate 12 0;
+      statuses = running ∷ waiting ∷ [];
+      flags = 27 ∷ 1 ∷ [];
+      stored = [];
+      finished = false;
+    }
     -- both are over: each flag has come once
-    ∷ record { tasks = readThenWrite; turns = 20; statuses = over ∷ over ∷ []; flags = 63 ∷ 7 ∷ []; stored = [] }
+    ∷ record {
+      tasks = readThenWrite;
+      turns = replicate 20 0;
+      statuses = over ∷ over ∷ [];
+      flags = 63 ∷ 7 ∷ [];
+      stored = [];
+      finished = true;
+    }
     -- a writer runs, and nothing has come to a later reader
-    ∷ record { tasks = writeThenRead; turns = 10; statuses = running ∷ waiting ∷ []; flags = 11 ∷ 0 ∷ []; stored = [] }
-    ∷ record { tasks = writeThenRead; turns = 18; statuses = over ∷ over ∷ []; flags = 63 ∷ 7 ∷ []; stored = [] }
+    ∷ record {
+      tasks = writeThenRead;
+      turns = replicate 10 0;
+      statuses = running ∷ waiting ∷ [];
+      flags = 11 ∷ 0 ∷ [];
+      stored = [];
+      finished = false;
+    }
+    ∷ record {
+      tasks = writeThenRead;
+      turns = replicate 18 0;
+      statuses = over ∷ over ∷ [];
+      flags = 63 ∷ 7 ∷ [];
+      stored = [];
+      finished = true;
+    }
+    ∷ []
+
+-- what comes first, and when all is finished
+abbrev pub laterMoments : List Moment
+laterMoments =
+    -- the oldest message is delivered: DONE to the second access before READ and WRITE to the first reader
+    record {
+      tasks = writeThenTwoRead;
+      turns = replicate 19 0;
+      statuses = over ∷ waiting ∷ waiting ∷ [];
+      flags = 15 ∷ 15 ∷ 0 ∷ 0 ∷ [];
+      stored = [];
+      finished = false;
+    }
+    -- the oldest task to add is given first
+    ∷ record {
+      tasks = writeThenTwoRead;
+      turns = replicate 24 0;
+      statuses = over ∷ ready ∷ ready ∷ [];
+      flags = 63 ∷ 63 ∷ 3 ∷ 3 ∷ [];
+      stored = 1 ∷ [];
+      finished = false;
+    }
+    -- all tasks are over and no message is pending, but a notice is
+    ∷ record {
+      tasks = readTwice;
+      turns = untilNotice;
+      statuses = over ∷ over ∷ [];
+      flags = 31 ∷ 7 ∷ [];
+      stored = [];
+      finished = false;
+    }
+    ∷ record {
+      tasks = readTwice;
+      turns = untilNotice ++ 0 ∷ [];
+      statuses = over ∷ over ∷ [];
+      flags = 63 ∷ 7 ∷ [];
+      stored = [];
+      finished = true;
+    }
     ∷ []
 
 pub plays : Matches moments
 unfolding upd lastBelow firstFrom accesses taskOf first reader sameAddress prev next passesRead passesWrite satisfied lowered after T.start
-    linkMessage passed doneMessages duty creating step played statusesOf flagsOf numbersFrom
-plays = (refl, refl, refl, (refl, refl, refl, (refl, refl, refl, (refl, refl, refl, (refl, refl, refl, tt)))))
+    linkMessage passed doneMessages duty creating step played statusesOf flagsOf numbersFrom finished everyBelow
+plays = (refl, refl, refl, refl, (refl, refl, refl, refl, (refl, refl, refl, refl, (refl, refl, refl, refl, (refl, refl, refl, refl, tt)))))
+
+pub plays-later : Matches laterMoments
+unfolding upd lastBelow firstFrom accesses taskOf first reader sameAddress prev next passesRead passesWrite satisfied lowered after T.start
+    linkMessage passed doneMessages duty creating step played statusesOf flagsOf numbersFrom finished everyBelow
+plays-later = (refl, refl, refl, refl, (refl, refl, refl, refl, (refl, refl, refl, refl, (refl, refl, refl, refl, tt))))
+
+-- who received a task is noted
+pub noted : map (played readTwice untilNotice .tasks .runner) (numbersFrom 0 2) ≡ 0 ∷ 1 ∷ []
+unfolding upd lastBelow firstFrom accesses taskOf first reader sameAddress prev next passesRead passesWrite satisfied lowered after T.start
+    linkMessage passed doneMessages duty creating step played numbersFrom
+noted = refl

@@ -2,7 +2,7 @@
 -- and every list of picks is a history of the tasks.
 use Prim.Native.Nat.{ℕ, zero, suc, _+_, _≤_, _<_}
 use native.Mathlib.Omega.{arith}
-use mathlib.Core.Path.{_≡_, refl, ap, subst, _∙_}
+use mathlib.Core.Path.{_≡_, refl, sym, ap, subst, _∙_, fun-ext}
 use mathlib.Core.Logic.{⊎-elim, _≢_}
 use mathlib.Core.Bool.{Bool, true, false, not, _&&_}
 use mathlib.Core.List.{List, [], _∷_, _++_, List·Memᴰ, List·Memᴰ·head, append-nil}
@@ -18,6 +18,7 @@ use Rattle.runs.specs.Traces as Traces
 use Rattle.runs.specs.Traces.{Happening}
 use Rattle.plan.specs.Plan.{Task}
 use Rattle.tasks.specs.Accesses.{Distinct, taskAt}
+use Rattle.tasks.specs.Flags.{Flags, each}
 use Rattle.tasks.specs.Tasks.{Created, Stand, free, telling, working, over, Tasks, isOver, isHeld, isReceived, isEnded, given}
 use Rattle.tasks.specs.History as H
 use Rattle.tasks.specs.Promise as Promise
@@ -153,6 +154,10 @@ module _ {E : Type 0} (taskOp : E → Option H.Op) where
   abbrev pub isEnding : ℕ → E → ℕ
   isEnding i e = by (H.isEnding i) (taskOp e)
 
+  -- of a flag, what comes to access a
+  abbrev pub brings : (Flags → ℕ) → ℕ → E → ℕ
+  brings flag a e = by (H.brings flag a) (taskOp e)
+
   tally-by : (f : H.Op → ℕ) (w n : ℕ) (o : Option H.Op) → H.tally f (movesBy w n o) ≡ by f o
   unfolding H.tally
   tally-by f w n none = refl
@@ -197,6 +202,13 @@ module _ {E : Type 0} (taskOp : E → Option H.Op) where
   counted : (f : H.Op → ℕ) (o : Option H.Op) → 0 < by f o → (op : H.Op) × (o ≡ some op) × (0 < f op)
   counted f none l = absurd (omega arith)
   counted f (some op) l = (op, refl, l)
+
+  -- an access has the flags that deliveries and notices brought to it
+  pub brought : {W : ℕ} {ts : List Task} → Distinct ts → (hs : List (Happening E)) {t : Tasks} {st : ℕ → Stand}
+      → H.History W ts (moves 0 hs) t st → (a : ℕ) → t .flags a ≡ each (λ flag. Traces.tally (brings flag a) hs)
+  brought d hs history a =
+      Promise.brought d history a
+      ∙ ap each (fun-ext (λ flag. sym (tally-moves (H.brings flag a) 0 hs)))
 
   module _ {W : ℕ} {ts : List Task} (d : Distinct ts) (hs : List (Happening E)) {t : Tasks} {st : ℕ → Stand}
       (history : H.History W ts (moves 0 hs) t st) (i : ℕ) where

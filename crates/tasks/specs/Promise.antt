@@ -14,12 +14,12 @@ use Rattle.runs.specs.Counts.{one-le, count}
 use Rattle.plan.specs.Orders.{numbersFrom}
 use Rattle.plan.specs.Plan.{Task}
 use Rattle.tasks.specs.Accesses.{noAccess, taskOf, taskAt, accessAt, first, reader, prev, next, conflict}
-use Rattle.tasks.specs.Flags.{noFlag, Flags, with, passesRead, passesWrite}
+use Rattle.tasks.specs.Flags.{noFlag, Flags, each, sent, with, passesRead, passesWrite}
 use Rattle.tasks.specs.Tasks.{Message, Stand, free, telling, working, Status, new, waiting, ready, held, running, over, opening}
 use Rattle.tasks.specs.Tasks.{Tasks, start, withAdds, withCount, withStatus, stage, isOver, isReady, isHeld, isRunning, pastWaiting}
 use Rattle.tasks.specs.Tasks.{isReceived, isEnded, opened, linked, inHand, toAdd, given}
 use Rattle.tasks.specs.History.{Op, gives, Can, lowered, doneMessages, after, standAfter, gave, took, heldOut, fetched, isReceipt}
-use Rattle.tasks.specs.History.{isEnding, isGive, quiet, Move, Run, tally, History}
+use Rattle.tasks.specs.History.{isEnding, brings, isGive, quiet, Move, Run, tally, History}
 use Rattle.tasks.specs.Inside.Statuses as statuses
 use Rattle.tasks.specs.Inside.Links as links
 use Rattle.tasks.specs.Inside.Rights as rights
@@ -34,6 +34,7 @@ use Rattle.tasks.specs.Inside.Lists as lists
 use Rattle.tasks.specs.Inside.Stories as stories
 use Rattle.tasks.specs.Inside.Work as work
 use Rattle.tasks.specs.Inside.Histories as histories
+use Rattle.tasks.specs.Inside.Brought as came
 -- the words of the laws
 pub use Rattle.tasks.specs.Accesses.{total, addr, totalCost, Distinct}
 pub use Rattle.tasks.specs.Flags.{Once, NoneTwice, RightsOnly}
@@ -86,6 +87,10 @@ module _ {W : ℕ} {ts : List Task} {t : Tasks} {st : ℕ → Stand} (v : Kept W
   -- a notice is to an access, and tells of each flag once
   pub notice-once : (w : ℕ) → w < W → (a : ℕ) (f : Flags) → st w ≡ telling a f → (a < total ts) × Once f
   notice-once = messages.notice-once W ts (v .inv .links) t st (v .inv .messages)
+
+  -- and sets no flag that is set
+  pub notice-new : (w : ℕ) → w < W → (a : ℕ) (f : Flags) → st w ≡ telling a f → Once (with (t .flags a) (sent f))
+  notice-new = messages.notice-new W ts (v .inv .links) t st (v .inv .messages)
 
   module _ (w : ℕ) (hw : w < W) (xs : List Message) (m : Message) (ys : List Message) (e : t .mail w ≡ xs ++ m ∷ ys) where
     -- a message is to an access and brings a flag
@@ -305,6 +310,18 @@ module _ {W : ℕ} {ts : List Task} (d : Distinct ts) {ms : List Move} {t : Task
 
   pub mails : (n : ℕ) → 0 < n → ((i : ℕ) → length (taskAt ts i .accesses) ≤ n) → (u : ℕ) → length (t .mail u) ≤ n
   mails n pos few = histories.mails (links.links ts d) n pos few history
+
+  -- an access has the flags that deliveries and notices brought to it
+  pub brought : (a : ℕ) → t .flags a ≡ each (λ flag. tally (brings flag a) ms)
+  brought a =
+      rw (
+        came.brought (λ f. f .read) (λ f g. refl) a refl history,
+        came.brought (λ f. f .write) (λ f g. refl) a refl history,
+        came.brought (λ f. f .done) (λ f g. refl) a refl history,
+        came.brought (λ f. f .next) (λ f g. refl) a refl history,
+        came.brought (λ f. f .sentRead) (λ f g. refl) a refl history,
+        came.brought (λ f. f .sentWrite) (λ f g. refl) a refl history,
+      )
 
   module _ (i : ℕ) where
     -- a task was received once where it is run or over, and ended once where it is over

@@ -1,19 +1,20 @@
 -- The finishing figure: how many picks a run needs at the most, where every B picks in a row include each worker.
 use Prim.Native.Nat.{ℕ, suc, _+_, _*_, _≤_, _<_}
 use native.Mathlib.Omega.{arith}
-use native.Mathlib.Nat.{mul-comm}
+use native.Mathlib.Nat.{mul-comm, mul-le-mul-right}
 use mathlib.Core.Path.{_≡_, refl, sym, ap, _∙_}
 use mathlib.Core.Logic.{_⊎_, inl, inr, ⊎-elim}
 use mathlib.Core.Bool.{Bool, true, false}
-use mathlib.Core.List.{List}
+use mathlib.Core.List.{List, _++_}
 use lib.ListN.{length, take, drop, length-take}
-use Rattle.runs.specs.Picks.{Picks, Regular, picks-take, run, run-drop, Within}
+use Rattle.runs.specs.Picks.{Picks, Regular, picks-take, run, run-append, run-drop, run-keeps, Within}
 use Rattle.runs.specs.Fair.{Turn, reaches, fair}
 use Rattle.runs.specs.Rounds.{rounds}
 use Rattle.machine.specs.State.{Setup, State, start, picked}
 use Rattle.machine.specs.Event.{event}
 use Rattle.machine.specs.Step.{step, finished, pick, after}
 use Rattle.machine.specs.View.{does-step}
+use Rattle.machine.specs.Figures.{finishingFigure}
 use Rattle.machine.specs.Safety.Invariant.{Playable, Inv, inv-start, inv-step, inv-picked}
 use Rattle.machine.specs.Safety.Traces.{pick-finished, pick-open, pick-keeps, run-finished, picks-taken, taken-within}
 use Rattle.tasks.specs.Tasks as T
@@ -105,15 +106,34 @@ module _ (c : Setup) (playable : Playable c) where
       ∙ mul-comm (work c (start c)) (B * (4 * c .workers + 8))
       ∙ ap (λ n. B * (4 * c .workers + 8) * n) (work-start c playable)
 
+  at-start : AtMost (work c (start c)) (start c)
+  at-start = ((inv-start c playable, creates-start c), omega arith)
+
+  -- from any state that picks lead to: no more work is left there than at the start
+  finishes-from : (B : ℕ) (ws : List ℕ) → Picks (c .workers) ws → Regular (c .workers) B ws
+      → (s : State) → AtMost (work c (start c)) s → figure B ≤ length ws
+      → Within (pick c) (λ u. finished c u ≡ true) (work c s * (suc (most c) * B)) ws s
+  finishes-from B ws p q s (k, less) long =
+      rounds (pick c) Lawful (λ u. finished c u ≡ true) (work c) (c .workers) B (suc (most c) * B)
+      (pick-keeps c Lawful lawful-step) (λ u h z. nothing-left c playable u (h .0) z) (round B) ws p q s k
+      (omega (arith, mul-le-mul-right (suc (most c) * B) less, in-rounds B))
+
+  -- whatever was picked before, a list in which every B picks in a row include each worker, and that has at least so many picks, finishes
+  -- the run: nothing gets stuck
+  pub finishes-after : (us : List ℕ) → Picks (c .workers) us → (B : ℕ) (ws : List ℕ) → Picks (c .workers) ws → Regular (c .workers) B ws
+      → finishingFigure c B ≤ length ws → finished c (after c (us ++ ws)) ≡ true
+  unfolding after
+  finishes-after us h B ws p q long =
+      let s = run (pick c) (start c) us in
+      let kept = run-keeps (pick c) (c .workers) (AtMost (work c (start c))) (at-most-pick (work c (start c))) us h (start c) at-start in
+      let (n, a, b, e) = finishes-from B ws p q s kept long in
+      rw (run-append (pick c) (start c) us ws, run-drop (pick c) s n ws, run-finished c (run (pick c) s (take n ws)) e (drop n ws)) e
+
   module _ (B : ℕ) (ws : List ℕ) (p : Picks (c .workers) ws) (q : Regular (c .workers) B ws)
       (long : B * (4 * c .workers + 8) * (7 * length (c .tasks) + 7 * total (c .tasks) + totalCost (c .tasks)) ≤ length ws) where
     pub finishes-within : Within (pick c) (λ s. finished c s ≡ true)
         (B * (4 * c .workers + 8) * (7 * length (c .tasks) + 7 * total (c .tasks) + totalCost (c .tasks))) ws (start c)
-    finishes-within =
-        rw (sym (in-rounds B))
-        (rounds (pick c) Lawful (λ s. finished c s ≡ true) (work c) (c .workers) B (suc (most c) * B)
-        (pick-keeps c Lawful lawful-step) (λ s k z. nothing-left c playable s (k .0) z) (round B) ws p q (start c)
-        (inv-start c playable, creates-start c) (omega (arith, in-rounds B)))
+    finishes-within = rw (sym (in-rounds B)) (finishes-from B ws p q (start c) at-start long)
 
     -- the state after the list is the one in which the run was finished first
     settled : (n : ℕ) × (n ≤ figure B) × (n ≤ length ws) × (finished c (run (pick c) (start c) (take n ws)) ≡ true)

@@ -1,4 +1,5 @@
--- Two runs computed up to the figures: with smaller factors the worker would still wait, and the task would still run.
+-- Runs computed up to the figures: with smaller factors the worker would still wait, and the task would still run; and with a worker that
+-- is never picked no figure would do.
 use Prim.Native.Nat.{ℕ}
 use mathlib.Core.Path.{_≡_, refl}
 use mathlib.Core.Bool.{Bool, true, false}
@@ -38,3 +39,8 @@ out-in-time = refl
 pub finished-in-time : finished (one 1 100) (after (one 1 100) (replicate (finishingFigure (one 1 100) 1) 0)) ≡ true
 unfolding computing sum
 finished-in-time = refl
+
+-- worker 0 is never picked: its task isn't even opened
+pub unfinished-unpicked : finished (one 2 0) (after (one 2 0) (replicate (finishingFigure (one 2 0) 1) 1)) ≡ false
+unfolding computing sum
+unfinished-unpicked = refl

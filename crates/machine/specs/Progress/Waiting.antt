@@ -18,7 +18,8 @@ use Rattle.lock.specs.Promise as Promise
 use Rattle.tasks.specs.Accesses.{taskAt}
 use Rattle.tasks.specs.Tasks as T
 use Rattle.machine.specs.State.{Setup, Purpose, forServing, forAdding, Place, idle, trying, registering, looking, draining, serving, handing, leaving, State, picked}
-use Rattle.machine.specs.Event.{Event, registers, owns, fills, handsOver, leaves}
+use Rattle.machine.specs.Event.{Event, registers, receives, owns, fills, handsOver, leaves, event}
+use Rattle.machine.specs.Events.{event-wait, event-receive, event-own}
 use Rattle.machine.specs.Step.{apply, step, finished, pick, afterDraining, nextDrain}
 use Rattle.machine.specs.Whereabouts.{lockStand}
 use Rattle.machine.specs.View as view
@@ -59,6 +60,20 @@ to-hand-over-le W leaving h = omega arith
 abbrev pub OutOfWait : Setup → ℕ → State → Type 0
 OutOfWait c w s =
     ((i : ℕ) × (s .place w ≡ idle) × (s .stand w ≡ T.working i (taskAt (c .tasks) i .cost))) ⊎ (s .place w ≡ draining forServing 0)
+
+-- a waiting worker is out of the wait by the pick in which it receives a task or owns the lock, and by no other
+pub out-by : (c : Setup) (s : State) (w t : ℕ) → s .place w ≡ looking t → OutOfWait c w (step c s w)
+    → ((i : ℕ) × (event c s w ≡ receives t i)) ⊎ (event c s w ≡ owns t)
+unfolding step
+out-by c s w t p out = go (L.look (c .slots) (s .lock) t w) refl
+  where
+    still : L.look (c .slots) (s .lock) t w ≡ L.notYet → (step c s w) .place w ≡ looking t
+    still e = rw (event-wait c s w p e, upd-same) p
+
+    go : (x : L.Look) → L.look (c .slots) (s .lock) t w ≡ x → ((i : ℕ) × (event c s w ≡ receives t i)) ⊎ (event c s w ≡ owns t)
+    go L.notYet e = let q = still e in ⊎-elim (λ (i, z, r). clash (cc)) (λ z. clash (cc)) out
+    go (L.receives i) e = inl (i, event-receive c s w p e)
+    go L.owns e = inr (event-own c s w p e)
 
 abbrev pub DrainsBelow : Setup → State → Type 0
 DrainsBelow c s = (v : ℕ) (p : Purpose) (k : ℕ) → s .place v ≡ draining p k → k < c .workers

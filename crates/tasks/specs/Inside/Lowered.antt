@@ -34,5 +34,8 @@ lowered-runner t w i x = lowered-cases (λ r. r .runner ≡ t .runner) t w i x (
 pub lowered-mail : (t : Tasks) (w i x : ℕ) → lowered t w i x .mail ≡ t .mail
 lowered-mail t w i x = lowered-cases (λ r. r .mail ≡ t .mail) t w i x (λ l e. refl) (λ d. refl)
 
+pub lowered-flags : (t : Tasks) (w i x : ℕ) → lowered t w i x .flags ≡ t .flags
+lowered-flags t w i x = lowered-cases (λ r. r .flags ≡ t .flags) t w i x (λ l e. refl) (λ d. refl)
+
 pub lowered-creation : (t : Tasks) (w i x : ℕ) → lowered t w i x .creation ≡ t .creation
 lowered-creation t w i x = lowered-cases (λ r. r .creation ≡ t .creation) t w i x (λ l e. refl) (λ d. refl)

@@ -13,7 +13,7 @@ use Rattle.plan.specs.Plan.{Task}
 use Rattle.runs.specs.Counts.{one-le}
 use Rattle.tasks.specs.Tasks.{isOver, isEnded, Made, Sound, Message, Stand, free, telling, working, Status, Creation, opening}
 use Rattle.tasks.specs.Tasks.{linking, Tasks, start, linked}
-use Rattle.tasks.specs.Flags.{Once, NoneTwice, RightsOnly, Flags, granting, noFlag}
+use Rattle.tasks.specs.Flags.{Once, NoneTwice, RightsOnly, Flags, granting, noFlag, sent, with}
 use Rattle.tasks.specs.Accesses.{taskOf, first, reader, prev, next, total}
 use Rattle.tasks.specs.Inside.LinkLaws.{Links}
 use Rattle.tasks.specs.Inside.Rights.{Right, toRead, toWrite, granted, sentOf, passes, passes-next, passes-none, granted-none}
@@ -169,6 +169,19 @@ module _ (W : ℕ) (ts : List Task) (laws : Links ts) where
               sentWrite = omega arith;
             })
 
+    -- what a notice tells of is not marked as sent
+    sent-once : (w : ℕ) → w < W → (a : ℕ) (f : Flags) → st w ≡ telling a f → a < total ts → (r : Right)
+        → sentOf r (s .flags a) + granted r f ≤ 1
+    sent-once w hw a f p l r =
+        omega (
+          arith,
+          i .sents r a,
+          passing-once r a l,
+          le-sum W (λ k. tells (granted r) a (st k)) w hw,
+          ap (tells (granted r) a) p,
+          here-same a a (granted r f) refl,
+        )
+
     -- a notice is to an access, and tells of each flag once
     pub notice-once : (w : ℕ) → w < W → (a : ℕ) (f : Flags) → st w ≡ telling a f → (a < total ts) × Once f
     notice-once w hw a f p = (
@@ -190,15 +203,21 @@ module _ (W : ℕ) (ts : List Task) (laws : Links ts) where
         only = to .1 .1
 
         bounded : (r : Right) → granted r f ≤ 1
-        bounded r =
-            omega (
-              arith,
-              i .sents r a,
-              passing-once r a (to .0),
-              le-sum W (λ k. tells (granted r) a (st k)) w hw,
-              ap (tells (granted r) a) p,
-              here-same a a (granted r f) refl,
-            )
+        bounded r = omega (arith, sent-once w hw a f p (to .0) r)
+
+    -- and sets no flag that is set
+    pub notice-new : (w : ℕ) → w < W → (a : ℕ) (f : Flags) → st w ≡ telling a f → Once (with (s .flags a) (sent f))
+    notice-new w hw a f p =
+        let l : a < total ts = (notice-once w hw a f p) .0 in
+        let old = flags-once a in
+        record {
+          read = omega (arith, old .read);
+          write = omega (arith, old .write);
+          done = omega (arith, old .done);
+          next = omega (arith, old .next);
+          sentRead = omega (arith, sent-once w hw a f p l toRead);
+          sentWrite = omega (arith, sent-once w hw a f p l toWrite);
+        }
 
     module _ (w : ℕ) (hw : w < W) (xs : List Message) (m : Message) (ys : List Message) (e : s .mail w ≡ xs ++ m ∷ ys) where
       pub message-sound : Sound ts m

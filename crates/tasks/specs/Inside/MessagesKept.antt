@@ -23,7 +23,8 @@ use Rattle.tasks.specs.Inside.Counting.{Counts, counts-waiting, given-re
 use Rattle.tasks.specs.Inside.LinkLaws.{Links}
 use Rattle.tasks.specs.Inside.Rights.{Right, toRead, toWrite, granted, sentOf, passes, passes-next, passes-with, passes-sent}
 use Rattle.tasks.specs.Inside.Rights.{granted-with, sent-with, granted-sent, sent-sent, granted-both, granted-done, granted-next}
-use Rattle.tasks.specs.Inside.Underway.{here, here-same, here-other, here-zero, upd-more, weigh, toward, bySender, outOf, underWay}
+use Rattle.tasks.specs.History.{here}
+use Rattle.tasks.specs.Inside.Underway.{here-same, here-other, here-zero, upd-more, weigh, toward, bySender, outOf, underWay}
 use Rattle.tasks.specs.Inside.Underway.{way-posted, way-posted-one, way-delivered, way-carried, passMessage, weigh-passed, passed-all}
 use Rattle.tasks.specs.Inside.Underway.{dones, weigh-dones, weigh-dones-none, tells, pending}
 

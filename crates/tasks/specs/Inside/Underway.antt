@@ -15,11 +15,7 @@ use Rattle.tasks.specs.Accesses.{reader, next}
 use Rattle.tasks.specs.Flags.{Flags, granting, DONE, passesRead, passesWrite}
 use Rattle.plan.specs.Plan.{Task}
 use Rattle.tasks.specs.Tasks.{Message, Stand, free, telling, working}
-use Rattle.tasks.specs.History.{plain, passed}
-
--- x where a and b are equal, else 0
-unfoldable pub here : ℕ → ℕ → ℕ → ℕ
-here a b x = elim (eqb a b) [ true ↦ x | false ↦ 0 ]
+use Rattle.tasks.specs.History.{plain, passed, here}
 
 pub here-same : (a b x : ℕ) → a ≡ b → here a b x ≡ x
 unfolding here
