@@ -1,14 +1,14 @@
 -- The dealings with a device that leave a worker where it stands: a task is given to the device, and one is held out.
-use Prim.Native.Nat.{ℕ, _+_, _*_}
+use Prim.Native.Nat.{ℕ}
 use native.Mathlib.Omega.{arith}
 use mathlib.Core.Path.{_≡_, refl, ap}
 use mathlib.Core.List.{List, _∷_}
-use lib.ListN.{set}
 use Rattle.runs.specs.Update.{upd, upd-same, upd-other}
 use Rattle.tasks.specs.Tasks.{held}
 use Rattle.tasks.specs.History.{Can, can-give, can-hold, gives, holds, after}
 use Rattle.memory.specs.Layout as layout
 use Rattle.memory.specs.Shares.{Stored}
+use Rattle.memory.specs.Rows.{heldRows}
 use Rattle.memory.specs.Memory.{TaskMemory, memory, Able, HeldAfter, unfinished}
 use Rattle.memory.specs.RowLaws.{status-set}
 use Rattle.duties.specs.FromTasks.{given-within}
@@ -36,7 +36,7 @@ module _ {m : TaskMemory} {own : List ℕ} {w : ℕ} (a : Able m own w) where
       }
 
   pub heldOut : (i k : ℕ) → Can (a .W) (a .ts) (a .t) (a .st w) w (holds i)
-      → HeldAfter a k (holds i) (memory (m .tally) (set (m .rows) (layout.taskRow * i + layout.status) layout.held) (m .accesses)) own
+      → HeldAfter a k (holds i) (memory (m .tally) (heldRows (m .rows) i) (m .accesses)) own
   unfolding after
   heldOut i k (can-hold _ g) =
       let h = a .holds in

@@ -7,6 +7,7 @@ use mathlib.Core.Path.{_≡_, refl, ap, _∙_}
 use mathlib.Core.List.{List, [], _∷_, _++_, map, map-append, append-assoc}
 use mathlib.Core.Option.{some}
 use lib.ListN.{length, getD, set, length-set, length-map, length-append}
+use lib.Seq.{getD-set-other}
 use mathlib.Core.Logic.{_≢_}
 use Rattle.runs.specs.Update.{upd, upd-same, upd-other}
 use Rattle.runs.specs.Sums.{le-sum}
@@ -18,7 +19,7 @@ use Rattle.tasks.specs.History as TH
 use Rattle.tasks.specs.History.{Op, Can, can-take, can-receive, takes, receives, plain, doneMessages}
 use Rattle.memory.specs.Layout as layout
 use Rattle.memory.specs.Shares.{Stored}
-use Rattle.memory.specs.Rows.{taskNumber, TaskRows}
+use Rattle.memory.specs.Rows.{taskNumber, TaskRows, receivedRows}
 use Rattle.memory.specs.Memory.{TaskMemory, memory, HoldsTasks, Able, HeldAfter, unfinished, notices, itsDuty}
 use Rattle.memory.specs.declared.tally.Tally.{Tally}
 use Rattle.memory.specs.ShareLaws.{mail-count}
@@ -50,11 +51,14 @@ dones-length a n = length-map (numbersFrom a n) (λ b. plain b DONE) ∙ numbers
 pub dones-more : (mail : List Message) (a n : ℕ) → mail ++ donesFrom a (n + 1) ≡ (mail ++ donesFrom a n) ++ plain (a + n) DONE ∷ []
 dones-more mail a n = rw (add-one n, numbers-snoc a n, map-append, append-assoc)
 
--- the rows of the tasks after a receipt
-abbrev pub receivedRows : List ℕ → ℕ → ℕ → ℕ → List ℕ
-receivedRows rows i w time =
+pub received-cost : (rows : List ℕ) (i w time : ℕ) → taskNumber (receivedRows rows i w time) i layout.cost ≡ taskNumber rows i layout.cost
+received-cost rows i w time =
     let row = layout.taskRow * i in
-    set (set (set rows (row + layout.status) layout.running) (row + layout.runner) w) (row + layout.receipt) time
+    let one = set rows (row + layout.status) layout.running in
+    let two = set one (row + layout.runner) w in
+    getD-set-other two (row + layout.receipt) (row + layout.cost) time 0 (λ e. omega arith)
+    ∙ getD-set-other one (row + layout.runner) (row + layout.cost) w 0 (λ e. omega arith)
+    ∙ getD-set-other rows (row + layout.status) (row + layout.cost) layout.running 0 (λ e. omega arith)
 
 module _ {m : TaskMemory} {own : List ℕ} {w : ℕ} (a : Able m own w) where
   -- ---- a receipt

@@ -14,7 +14,7 @@ use Rattle.tasks.specs.Tasks.{Message, Stand, free, telling, working, Status, n
 use Rattle.runs.specs.Below.{everyBelow}
 use Rattle.tasks.specs.Tasks.{isOver}
 use Rattle.tasks.specs.Playing.{hasNotice, finished}
-use Rattle.memory.specs.Memory.{TaskMemory, HoldsTasks, unfinished, notices}
+use Rattle.memory.specs.Memory.{TaskMemory, HoldsTasks, unfinished, notices, nothingLeft}
 
 both-zero : (a b : ℕ) → (eqb a 0 && eqb b 0) ≡ eqb (a + b) 0
 both-zero zero b = rw (zero-add b)
@@ -46,7 +46,7 @@ quiet ms x = rw (notice-none x) (both-zero (length ms) (notices x))
 
 pub finished-counts : (W : ℕ) (ts : List Task) (m : TaskMemory) (parts : ℕ → List ℕ) (t : Tasks) (st : ℕ → Stand)
     → HoldsTasks W ts m parts t st
-    → finished W ts t st ≡ (eqb (m .tally .left) 0 && eqb (m .tally .pending) 0)
+    → finished W ts t st ≡ nothingLeft (m .tally)
 unfolding finished
 finished-counts W ts m parts t st h =
     let over = every-below (length ts) (λ i. isOver (t .status i)) (λ i. unfinished (t .status i)) (λ i. over-none (t .status i)) in

@@ -70,7 +70,7 @@ next = 4
 abbrev pub address : ℕ
 address = 5
 
--- Where a task's label stands in the plan's text: a row of two numbers. A label has so many bytes at the most.
+-- A label has so many bytes at the most. Where it stands in the plan's text: a row of two numbers.
 abbrev pub mostLabel : ℕ
 mostLabel = 16
 

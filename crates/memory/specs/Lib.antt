@@ -9,3 +9,4 @@ pub mod ShareLaws
 pub mod StoringLaws
 pub mod Standing
 pub mod Starting
+pub mod SearchLaws

@@ -5,7 +5,7 @@ use mathlib.Core.List.{List}
 use mathlib.Core.Option.{Option, none, some}
 use lib.ListN.{length}
 use lib.Dec.{eqb, ltb}
-use mathlib.Core.Bool.{Bool, true, false, not}
+use mathlib.Core.Bool.{Bool, true, false, not, _&&_}
 use Rattle.runs.specs.Update.{upd}
 use Rattle.runs.specs.Sums.{sum}
 use Rattle.runs.specs.Counts.{one}
@@ -43,6 +43,10 @@ notices free = 0
 notices (telling a f) = 1
 notices (working i n) = 0
 
+-- The tasks lie in these numbers. What this does not speak of is left to the program: rows past the last task and the last access, spare
+-- columns and the address; in a part the numbers without a name, slots without an entry, and what a free worker's stand is about; parts
+-- past the last worker's; the next access while no task is open. They may be any numbers, before and after: what is held after an
+-- operation does not depend on them.
 pub record HoldsTasks (W : ℕ) (ts : List Task) (m : TaskMemory) (parts : ℕ → List ℕ) (t : Tasks) (st : ℕ → Stand) : Type 0 where
   pub tasks : m .tally .tasks ≡ length ts
   pub stored : (v : ℕ) → v < W → Stored (parts v) (st v) (t .mail v) (t .adds v)
@@ -110,6 +114,10 @@ endOf n rows = taskNumber rows (n .task) layout.first + taskNumber rows (n .task
 -- whether tasks are still to be created, by the numbers
 unfoldable pub toCreate : Tally → Bool
 toCreate n = elim (eqb (n .opened) 0) [ true ↦ ltb (n .task) (n .tasks) | false ↦ true ]
+
+-- whether no task is left and nothing is pending, by the numbers
+abbrev pub nothingLeft : Tally → Bool
+nothingLeft n = eqb (n .left) 0 && eqb (n .pending) 0
 
 -- the numbers of a plan of so many tasks, with nothing done
 abbrev pub freshTally : ℕ → Tally

@@ -44,7 +44,7 @@ pub record AccessRows (ts : List Task) (rows : List ℕ) (set : ℕ → Flags) :
   pub prev : Column layout.accessRow (plan.total ts) rows layout.prev (λ a. optionCode (plan.prev ts a))
   pub next : Column layout.accessRow (plan.total ts) rows layout.next (plan.next ts)
 
--- ---- rows that are laid and shown
+-- ---- rows that are laid, changed and shown
 
 -- the row of a task that is not yet created
 abbrev pub newTask : ℕ → ℕ → ℕ → List ℕ
@@ -62,6 +62,15 @@ withTask rows i row = sets rows (layout.taskRow * i) row
 
 abbrev pub withAccess : List ℕ → ℕ → List ℕ → List ℕ
 withAccess rows a row = sets rows (layout.accessRow * a) row
+
+-- with task i held out, and with it received by worker w at a time
+abbrev pub heldRows : List ℕ → ℕ → List ℕ
+heldRows rows i = set rows (layout.taskRow * i + layout.status) layout.held
+
+abbrev pub receivedRows : List ℕ → ℕ → ℕ → ℕ → List ℕ
+receivedRows rows i w time =
+    let row = layout.taskRow * i in
+    set (set (set rows (row + layout.status) layout.running) (row + layout.runner) w) (row + layout.receipt) time
 
 -- what has become of task i, as its row has it
 abbrev pub outcomeAt : List ℕ → ℕ → Outcome

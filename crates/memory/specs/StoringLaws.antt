@@ -15,7 +15,7 @@ use Rattle.runs.specs.Circular.{entries, entries-mod, entries-pop, entries-same
 use Rattle.tasks.specs.Tasks.{Message, Stand, working}
 use Rattle.memory.specs.Layout as layout
 use Rattle.memory.specs.Codes.{Coded, letter}
-use Rattle.memory.specs.Shares.{mailSlot, addSlot, Stored}
+use Rattle.memory.specs.Shares.{mailSlot, addSlot, Stored, standing, added, oldestAdd, withoutAdd, posted, oldestMail, withoutMail}
 use Rattle.memory.specs.declared.share.Letter.{Letter}
 
 -- the lists of a part, whatever its stand; what lies in the mailbox need not come from messages
@@ -157,8 +157,7 @@ module _ {own : List ℕ} {ls : List Letter} {js : List ℕ} (h : Lists own ls j
   lists-mail n = rw (set-getD own layout.mailAt 0) at (lists-mail-from (getD own layout.mailAt 0) n (h .mail-at))
 
 module _ {own : List ℕ} {p : Stand} {ms : List Message} {js : List ℕ} (h : Stored own p ms js) where
-  pub stored-stand : (a b c : ℕ) (to : Stand) → Coded a b c to
-      → Stored (set (set (set own layout.stand a) layout.about b) layout.left c) to ms js
+  pub stored-stand : (a b c : ℕ) (to : Stand) → Coded a b c to → Stored (standing own a b c) to ms js
   stored-stand a b c to coded =
       let one = set own layout.stand a in
       let two = set one layout.about b in
@@ -173,9 +172,7 @@ module _ {own : List ℕ} {p : Stand} {ms : List Message} {js : List ℕ} (h : S
       let is-left : getD new layout.left 0 ≡ c = getD-set-same two layout.left c 0 (omega (arith, second .long)) in
       stored (rw (is-stand, is-about, is-left) coded) (lists-stand second layout.left c (omega arith))
 
-  pub stored-add : (v : ℕ) → getD own layout.addsCount 0 < layout.addRoom
-      → Stored (set (set own (addAt ((getD own layout.addsAt 0 + getD own layout.addsCount 0) % layout.addRoom)) v) layout.addsCount
-      (getD own layout.addsCount 0 + 1)) p ms (js ++ v ∷ [])
+  pub stored-add : (v : ℕ) → getD own layout.addsCount 0 < layout.addRoom → Stored (added own v) p ms (js ++ v ∷ [])
   stored-add v room =
       let at = getD own layout.addsAt 0 in
       let n = getD own layout.addsCount 0 in
@@ -197,9 +194,7 @@ stored-worked {own} {i} h left =
     (stored-stand h (getD own layout.stand 0) (getD own layout.about 0) left (working i left) (h .stand .0, h .stand .1, refl))
 
 pub stored-take-add : {own : List ℕ} {p : Stand} {ms : List Message} {i : ℕ} {js : List ℕ} → Stored own p ms (i ∷ js)
-    → (getD own (addAt (getD own layout.addsAt 0)) 0 ≡ i)
-    × Stored (set (set own layout.addsAt ((getD own layout.addsAt 0 + 1) % layout.addRoom)) layout.addsCount
-    (getD own layout.addsCount 0 - 1)) p ms js
+    → (oldestAdd own ≡ i) × Stored (withoutAdd own) p ms js
 stored-take-add {own} {p} {ms} {i} {js} h =
     let at = getD own layout.addsAt 0 in
     let n = getD own layout.addsCount 0 in
@@ -215,9 +210,7 @@ stored-take-add {own} {p} {ms} {i} {js} h =
     )
 
 pub stored-take-mail : {own : List ℕ} {p : Stand} {m : Message} {ms : List Message} {js : List ℕ} → Stored own p (m ∷ ms) js
-    → (letter m ≡ mailSlot own (getD own layout.mailAt 0))
-    × Stored (set (set own layout.mailAt ((getD own layout.mailAt 0 + 1) % layout.mailRoom)) layout.mailCount
-    (getD own layout.mailCount 0 - 1)) p ms js
+    → (letter m ≡ oldestMail own) × Stored (withoutMail own) p ms js
 stored-take-mail {own} {p} {m} {ms} {js} h =
     let at = getD own layout.mailAt 0 in
     let n = getD own layout.mailCount 0 in
@@ -242,16 +235,10 @@ module _ {own : List ℕ} {p : Stand} {ms : List Message} {js : List ℕ} (h : S
       stored (stand-kept own i v p (omega arith) (h .stand))
       (lists-free (lists h) i v (λ k from to e. omega arith) (λ k below e. omega arith) (λ k below x low e. omega arith))
 
--- the slot after a letter is written
-abbrev lettered : List ℕ → ℕ → ℕ → ℕ → ℕ → List ℕ
-lettered own r a b c =
-    set (set (set own (letterAt r + layout.mailTo) a) (letterAt r + layout.mailFlags) b) (letterAt r + layout.mailSender) c
-
 module _ {own : List ℕ} {p : Stand} {ms : List Message} {js : List ℕ} (h : Stored own p ms js)
     (room : getD own layout.mailCount 0 < layout.mailRoom) where
   pub stored-post : (a b c : ℕ) (m : Message) → letter m ≡ record { to = a; flags = b; sender = c }
-      → Stored (set (lettered own ((getD own layout.mailAt 0 + getD own layout.mailCount 0) % layout.mailRoom) a b c) layout.mailCount
-      (getD own layout.mailCount 0 + 1)) p (ms ++ m ∷ []) js
+      → Stored (posted own a b c) p (ms ++ m ∷ []) js
   stored-post a b c m is =
       let at = getD own layout.mailAt 0 in
       let n = getD own layout.mailCount 0 in

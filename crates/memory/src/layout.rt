@@ -3,11 +3,11 @@
 // What there is room for.
 pub const MOST_WORKERS: usize = 32;
 
-pub const MOST_TASKS: usize = 128;
+const MOST_TASKS: usize = 128;
 
-pub const MOST_TASK_ACCESSES: usize = 4;
+const MOST_TASK_ACCESSES: usize = 4;
 
-pub const MOST_ACCESSES: usize = MOST_TASKS * MOST_TASK_ACCESSES;
+const MOST_ACCESSES: usize = MOST_TASKS * MOST_TASK_ACCESSES;
 
 // A task's row and its columns. The last columns are spare.
 pub const TASK_ROW: usize = 16;
@@ -45,18 +45,16 @@ pub const PREV: usize = 3;
 
 pub const NEXT: usize = 4;
 
-pub const ADDRESS: usize = 5;
+pub(crate) const ADDRESS: usize = 5;
 
-// Where a task's label stands in the plan's text: a row of two numbers. A label has so many bytes at the most.
-pub const MOST_LABEL: usize = 16;
-
-pub const LABEL_ROW: usize = 2;
+// Where a task's label stands in the plan's text: a row of two numbers.
+pub(crate) const LABEL_ROW: usize = 2;
 
 pub const LABEL_ROWS: usize = MOST_TASKS * LABEL_ROW;
 
-pub const LABEL_PLACE: usize = 0;
+pub(crate) const LABEL_PLACE: usize = 0;
 
-pub const LABEL_SIZE: usize = 1;
+pub(crate) const LABEL_SIZE: usize = 1;
 
 // A worker's share: the device's part, and behind it the tasks'.
 pub const SHARE: usize = 256;
@@ -71,30 +69,30 @@ pub const ABOUT: usize = 1;
 
 pub const LEFT: usize = 2;
 
-pub const ADDS_AT: usize = 4;
+pub(crate) const ADDS_AT: usize = 4;
 
 pub const ADDS_COUNT: usize = 5;
 
-pub const MAIL_AT: usize = 6;
+pub(crate) const MAIL_AT: usize = 6;
 
 pub const MAIL_COUNT: usize = 7;
 
 // The slots: where they begin, how many numbers each has, and how many there are.
-pub const MAIL_SLOTS: usize = 16;
+pub(crate) const MAIL_SLOTS: usize = 16;
 
-pub const MAIL_SLOT: usize = 4;
+pub(crate) const MAIL_SLOT: usize = 4;
 
-pub const MAIL_ROOM: u64 = 4;
+pub(crate) const MAIL_ROOM: u64 = 4;
 
-pub const MAIL_TO: usize = 0;
+pub(crate) const MAIL_TO: usize = 0;
 
-pub const MAIL_FLAGS: usize = 1;
+pub(crate) const MAIL_FLAGS: usize = 1;
 
-pub const MAIL_SENDER: usize = 2;
+pub(crate) const MAIL_SENDER: usize = 2;
 
-pub const ADD_SLOTS: usize = 32;
+pub(crate) const ADD_SLOTS: usize = 32;
 
-pub const ADD_ROOM: u64 = 128;
+pub(crate) const ADD_ROOM: u64 = 128;
 
 // Stands.
 pub const FREE: u64 = 0;

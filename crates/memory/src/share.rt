@@ -6,13 +6,14 @@ ghost use lib.ListN.{length, getD};
 ghost use Rattle.tasks.specs.Tasks.{Message, Stand};
 ghost use Rattle.memory.specs.Layout as layout;
 ghost use Rattle.memory.specs.Codes.{Coded, letter};
-ghost use Rattle.memory.specs.Shares.{Stored};
+ghost use Rattle.memory.specs.Shares.{Stored, standing, added, oldestAdd, withoutAdd, posted, oldestMail, withoutMail};
 use super::layout;
 
 // Sets where the worker stands.
 pub fn stand(own: &mut [u64], code: u64, about: u64, left: u64)
     requires { ⌜ length (now own) ≡ layout.part ⌝ }
-    ensures { λ _. ⌜ ((p to : Stand) (mail : List Message) (adds : List ℕ) →
+    ensures numbers { λ _. ⌜ now (own .exit) ≡ standing (now (own .entry)) code about left ⌝ }
+    ensures meaning { λ _. ⌜ ((p to : Stand) (mail : List Message) (adds : List ℕ) →
         Stored (now (own .entry)) p mail adds → Coded code about left to → Stored (now (own .exit)) to mail adds) ⌝ }
 {
     own[layout::STAND] = code;
@@ -24,7 +25,8 @@ pub fn stand(own: &mut [u64], code: u64, about: u64, left: u64)
 pub fn add(own: &mut [u64], task: u64)
     requires { ⌜ (length (now own) ≡ layout.part) × (getD (now own) layout.addsAt 0 < layout.addRoom)
         × (getD (now own) layout.addsCount 0 < layout.addRoom) ⌝ }
-    ensures { λ _. ⌜ ((p : Stand) (mail : List Message) (adds : List ℕ) →
+    ensures numbers { λ _. ⌜ now (own .exit) ≡ added (now (own .entry)) task ⌝ }
+    ensures meaning { λ _. ⌜ ((p : Stand) (mail : List Message) (adds : List ℕ) →
         Stored (now (own .entry)) p mail adds → Stored (now (own .exit)) p mail (adds ++ task ∷ [])) ⌝ }
 {
     let n = own[layout::ADDS_COUNT];
@@ -37,7 +39,8 @@ pub fn add(own: &mut [u64], task: u64)
 pub fn take_add(own: &mut [u64]) -> u64
     requires { ⌜ (length (now own) ≡ layout.part) × (getD (now own) layout.addsAt 0 < layout.addRoom)
         × (0 < getD (now own) layout.addsCount 0) ⌝ }
-    ensures { λ r. ⌜ ((p : Stand) (mail : List Message) (i : ℕ) (adds : List ℕ) →
+    ensures numbers { λ r. ⌜ (r ≡ oldestAdd (now (own .entry))) × (now (own .exit) ≡ withoutAdd (now (own .entry))) ⌝ }
+    ensures meaning { λ r. ⌜ ((p : Stand) (mail : List Message) (i : ℕ) (adds : List ℕ) →
         Stored (now (own .entry)) p mail (i ∷ adds) → (r ≡ i) × Stored (now (own .exit)) p mail adds) ⌝ }
 {
     let slot = own[layout::ADDS_AT];
@@ -58,7 +61,8 @@ pub struct Letter {
 pub fn post(own: &mut [u64], to: u64, flags: u64, sender: u64)
     requires { ⌜ (length (now own) ≡ layout.part) × (getD (now own) layout.mailAt 0 < layout.mailRoom)
         × (getD (now own) layout.mailCount 0 < layout.mailRoom) ⌝ }
-    ensures { λ _. ⌜ ((p : Stand) (mail : List Message) (adds : List ℕ) (m : Message) →
+    ensures numbers { λ _. ⌜ now (own .exit) ≡ posted (now (own .entry)) to flags sender ⌝ }
+    ensures meaning { λ _. ⌜ ((p : Stand) (mail : List Message) (adds : List ℕ) (m : Message) →
         Stored (now (own .entry)) p mail adds → letter m ≡ record { to = to; flags = flags; sender = sender }
         → Stored (now (own .exit)) p (mail ++ m ∷ []) adds) ⌝ }
 {
@@ -75,7 +79,8 @@ pub fn post(own: &mut [u64], to: u64, flags: u64, sender: u64)
 pub fn take_mail(own: &mut [u64]) -> Letter
     requires { ⌜ (length (now own) ≡ layout.part) × (getD (now own) layout.mailAt 0 < layout.mailRoom)
         × (0 < getD (now own) layout.mailCount 0) ⌝ }
-    ensures { λ r. ⌜ ((p : Stand) (m : Message) (mail : List Message) (adds : List ℕ) →
+    ensures numbers { λ r. ⌜ (r ≡ oldestMail (now (own .entry))) × (now (own .exit) ≡ withoutMail (now (own .entry))) ⌝ }
+    ensures meaning { λ r. ⌜ ((p : Stand) (m : Message) (mail : List Message) (adds : List ℕ) →
         Stored (now (own .entry)) p (m ∷ mail) adds → (letter m ≡ r) × Stored (now (own .exit)) p mail adds) ⌝ }
 {
     let slot = own[layout::MAIL_AT];

@@ -5,7 +5,7 @@ ghost use Prim.Native.Nat.{ℕ};
 ghost use Rattle.plan.specs.Plan.{Task};
 ghost use Rattle.tasks.specs.Tasks.{Tasks, Stand};
 ghost use Rattle.tasks.specs.Playing.{finished};
-ghost use Rattle.memory.specs.Memory.{TaskMemory, memory, HoldsTasks, freshTally};
+ghost use Rattle.memory.specs.Memory.{TaskMemory, memory, HoldsTasks, freshTally, nothingLeft};
 
 // How many tasks there are; whether a task is open in its creation, which, and its next access; how many tasks are not over; how many
 // messages and notices are pending.
@@ -34,7 +34,8 @@ pub fn fresh(tasks: u64) -> Tally
 
 // Whether the tasks are finished: all are over, and no message or notice is pending.
 pub fn is_finished(n: Tally) -> bool
-    ensures { λ r. ⌜ ((m : TaskMemory) (W : ℕ) (ts : List Task) (parts : ℕ → List ℕ) (t : Tasks) (st : ℕ → Stand) →
+    ensures numbers { λ r. ⌜ r ≡ nothingLeft n ⌝ }
+    ensures meaning { λ r. ⌜ ((m : TaskMemory) (W : ℕ) (ts : List Task) (parts : ℕ → List ℕ) (t : Tasks) (st : ℕ → Stand) →
         HoldsTasks W ts (memory n (m .rows) (m .accesses)) parts t st → r ≡ finished W ts t st) ⌝ }
 {
     if n.left == 0 {

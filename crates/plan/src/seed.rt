@@ -10,7 +10,7 @@ const INCREMENT: u64 = 1442695040888963407;
 const HALF: u64 = 0x1_0000_0000;
 
 // The product modulo 2^64, by halves of 32 bits: the product of the two upper halves counts for nothing.
-pub fn wrapping_mul(a: u64, b: u64) -> u64
+fn wrapping_mul(a: u64, b: u64) -> u64
     ensures { λ r. ⌜ r ≡ a * b % 2 ^ 64 ⌝ }
 {
     let low = (a % HALF) * (b % HALF);

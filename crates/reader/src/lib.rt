@@ -25,8 +25,8 @@ use plan::field::Access;
 use plan::field::read_access;
 use refusals::Refusal;
 
-pub mod accesses; // accesses.rt: the accesses of a task's line
-pub mod line; // line.rt: one line
+mod accesses; // accesses.rt: the accesses of a task's line
+mod line; // line.rt: one line
 
 // What checking a text gives: a refusal has the line's number, from 1, or 0 if it is not the plan's.
 pub enum Checked {

@@ -15,8 +15,8 @@ use line::put_task_line;
 use memory::labels::label_of;
 use memory::rows::outcome_of;
 
-pub mod line; // line.rt: its lines
-pub mod word; // word.rt: the words of its fields
+mod line; // line.rt: its lines
+mod word; // word.rt: the words of its fields
 
 // What the report says besides its tasks: whether the run is finished, picks taken, the lock's ends, the owner's number and 1 more, or 0;
 // how many tasks.

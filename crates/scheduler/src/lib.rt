@@ -4,6 +4,7 @@ ghost use mathlib.Core.Logic.{_⊎_, _≢_};
 ghost use mathlib.Core.List.{List};
 ghost use Prim.Native.Nat.{ℕ, _≤_, _<_};
 ghost use lib.ListN.{length, getD, drop};
+ghost use Rattle.memory.specs.Memory.{nothingLeft};
 ghost use Rattle.machine.specs.State.{Setup, State, Purpose, draining, picked};
 ghost use Rattle.machine.specs.Step.{nextDrain, step, finished};
 ghost use Rattle.machine.specs.Ranges.{Fit, acted};
@@ -166,7 +167,8 @@ fn drain_step(n: Counts, ready: &mut [u64], store: &mut [u64], w: usize) -> Coun
     r
 }
 
-// One pick of worker w: the pick is counted, and w does what it does where it stands, in its share.
+// One pick of worker w: the pick is counted, and w does what it does where it stands, in its share. The store past the shares keeps its
+// content (`later`); what `Holds` does not speak of is left to the program.
 pub fn pick(
     n: Counts,
     wait: &mut [u64],
@@ -218,7 +220,9 @@ pub fn pick(
 
 // Whether the state is finished.
 pub fn is_finished(n: Counts) -> bool
-    ensures { λ r. ⌜ ((m : Memory) (c : Setup) (s : State) (shares : ℕ → List ℕ) → Holds c (withCounts m n) shares s → r ≡ finished c s) ⌝ }
+    ensures numbers { λ r. ⌜ r ≡ nothingLeft (n .tally) ⌝ }
+    ensures meaning { λ r. ⌜ ((m : Memory) (c : Setup) (s : State) (shares : ℕ → List ℕ) → Holds c (withCounts m n) shares s →
+        r ≡ finished c s) ⌝ }
 {
     let tally = n.tally;
     memory::tally::is_finished(tally)

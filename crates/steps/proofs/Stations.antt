@@ -12,7 +12,7 @@ use Rattle.runs.specs.Circular.{entries-length, entries-none, entries-snoc, ent
 use Rattle.machine.specs.State.{forServing, forAdding, Place, idle, trying, registering, looking, draining, serving, handing, leaving}
 use Rattle.steps.specs.Layout.{placeAt, numberAt, queuedAt, queueFrom, queueSlots, IDLE, DRAINING_TO_ADD, CAPACITY, READY}
 use Rattle.steps.specs.Codes.{Coded}
-use Rattle.steps.specs.Memory.{Stationed}
+use Rattle.steps.specs.Memory.{Stationed, moved, pushed, emptied}
 
 -- the place, from its number
 pub idle-at : (k a : ℕ) (p : Place) → Coded k a p → k ≡ IDLE → p ≡ idle
@@ -48,7 +48,7 @@ module _ {own : List ℕ} {p : Place} {q : List ℕ} (h : Stationed own p q) whe
   at-number : (k v : ℕ) → k < queueFrom → getD (set own k v) k 0 ≡ v
   at-number k v few = getD-set-same own k v 0 (omega (arith, h .long))
 
-  pub stationed-go : (k a : ℕ) (to : Place) → Coded k a to → Stationed (set (set own placeAt k) numberAt a) to q
+  pub stationed-go : (k a : ℕ) (to : Place) → Coded k a to → Stationed (moved own k a) to q
   stationed-go k a to coded =
       let one = set own placeAt k in
       let new = set one numberAt a in
@@ -65,8 +65,7 @@ module _ {own : List ℕ} {p : Place} {q : List ℕ} (h : Stationed own p q) whe
         queue = rw (other queuedAt (omega arith)) (slots ∙ h .queue);
       }
 
-  pub stationed-push : (v : ℕ) → getD own queuedAt 0 < CAPACITY
-      → Stationed (set (set own (queueFrom + getD own queuedAt 0) v) queuedAt (getD own queuedAt 0 + 1)) p (q ++ v ∷ [])
+  pub stationed-push : (v : ℕ) → getD own queuedAt 0 < CAPACITY → Stationed (pushed own v) p (q ++ v ∷ [])
   stationed-push v room =
       let n = getD own queuedAt 0 in
       let one = set own (queueFrom + n) v in
@@ -89,7 +88,7 @@ module _ {own : List ℕ} {p : Place} {q : List ℕ} (h : Stationed own p q) whe
         queue = rw queued (ap (entries (queueSlot new) queueSlots 0) (add-one n) ∙ more ∙ ap (λ (l : List ℕ). l ++ v ∷ []) (h .queue));
       }
 
-  pub stationed-drained : Stationed (set own queuedAt 0) p []
+  pub stationed-drained : Stationed (emptied own) p []
   stationed-drained =
       let new = set own queuedAt 0 in
       let place : getD new placeAt 0 ≡ getD own placeAt 0 = getD-set-other own queuedAt placeAt 0 0 (λ e. omega arith) in

@@ -1,8 +1,8 @@
 -- A state of the machine in memory, by its three parts: the lock, the tasks, and where the device keeps what it was given.
-use Prim.Native.Nat.{ℕ, _+_, _*_, _-_, _%_, _<_}
+use Prim.Native.Nat.{ℕ, zero, suc, _+_, _*_, _-_, _%_, _<_}
 use mathlib.Core.Path.{_≡_}
 use mathlib.Core.List.{List}
-use lib.ListN.{length, getD, take, drop}
+use lib.ListN.{length, getD, set, take, drop}
 use Rattle.runs.specs.Update.{upd}
 use Rattle.lock.specs.Arrays.{lockOf}
 use Rattle.lock.specs.declared.Ends.{Ends}
@@ -30,6 +30,21 @@ pub record Stationed (own : List ℕ) (p : Place) (q : List ℕ) : Type 0 where
   pub long : length own ≡ stationSize
   pub place : Coded (getD own placeAt 0) (getD own numberAt 0) p
   pub queue : entries (λ k. getD own (queueFrom + k) 0) queueSlots 0 (getD own queuedAt 0) ≡ q
+
+-- the device's part with another place, with one more task in its queue, and with none
+abbrev pub moved : List ℕ → ℕ → ℕ → List ℕ
+moved own place number = set (set own placeAt place) numberAt number
+
+abbrev pub pushed : List ℕ → ℕ → List ℕ
+pushed own task = set (set own (queueFrom + getD own queuedAt 0) task) queuedAt (getD own queuedAt 0 + 1)
+
+abbrev pub emptied : List ℕ → List ℕ
+emptied own = set own queuedAt 0
+
+-- the ready list, its oldest task in slot `at`, with the first k tasks of a queue behind its n tasks
+unfoldable pub drained : List ℕ → List ℕ → ℕ → ℕ → ℕ → List ℕ
+drained own ready at n zero = ready
+drained own ready at n (suc k) = set (drained own ready at n k) ((at + n + k) % READY) (getD own (queueFrom + k) 0)
 
 -- what the workers share; each worker lies in its share of the store
 pub record Memory : Type 0 where
@@ -95,6 +110,10 @@ pub record HoldsDevice (c : Setup) (n : Counts) (list : List ℕ) (stations : �
   pub ready-at : n .«ready_at» < READY
   pub ready : entries (λ k. getD list k 0) READY (n .«ready_at») (n .ready) ≡ readyList
 
+-- A state lies in this memory and these shares. What neither this nor `HoldsTasks` speaks of is left to the program: in the device's part
+-- the numbers without a name, the slots behind the queue, and the number of a place that speaks of none; the slots of the ready list
+-- without a task; the shares past the last worker's. They may be any numbers, before and after: what is held after a step does not depend
+-- on them.
 pub record Holds (c : Setup) (m : Memory) (shares : ℕ → List ℕ) (s : State) : Type 0 where
   pub lock :
       lockOf (c .slots) (m .counts .ends .head .0) (m .counts .ends .tail .0) (m .wait) (m .registrations) (m .tickets) (m .cells) ≡ s .lock

@@ -7,7 +7,7 @@ pub const NUMBER: usize = 1;
 
 pub const QUEUED: usize = 2;
 
-pub const QUEUE: usize = 8;
+pub(crate) const QUEUE: usize = 8;
 
 // The places: an owner's are from SERVING on, and those that drain are the last.
 pub const IDLE: u64 = 0;

@@ -7,7 +7,7 @@ ghost use Rattle.runs.specs.Circular.{entries};
 ghost use Rattle.machine.specs.State.{Place};
 ghost use Rattle.steps.specs.Layout.{stationSize, queuedAt, CAPACITY, READY};
 ghost use Rattle.steps.specs.Codes.{Coded};
-ghost use Rattle.steps.specs.Memory.{Stationed};
+ghost use Rattle.steps.specs.Memory.{Stationed, moved, pushed, emptied, drained};
 use super::layout::NUMBER;
 use super::layout::PLACE;
 use super::layout::QUEUE;
@@ -17,7 +17,8 @@ use super::layout::READY;
 // The worker goes to a place.
 pub fn go(own: &mut [u64], place: u64, number: u64)
     requires { ⌜ length (now own) ≡ stationSize ⌝ }
-    ensures { λ _. ⌜ ((p to : Place) (queue : List ℕ) →
+    ensures numbers { λ _. ⌜ now (own .exit) ≡ moved (now (own .entry)) place number ⌝ }
+    ensures meaning { λ _. ⌜ ((p to : Place) (queue : List ℕ) →
         Stationed (now (own .entry)) p queue → Coded place number to → Stationed (now (own .exit)) to queue) ⌝ }
 {
     own[PLACE] = place;
@@ -25,9 +26,10 @@ pub fn go(own: &mut [u64], place: u64, number: u64)
 }
 
 // Pushes a task onto the queue.
-pub fn push(own: &mut [u64], task: u64)
+pub(crate) fn push(own: &mut [u64], task: u64)
     requires { ⌜ (length (now own) ≡ stationSize) × (getD (now own) queuedAt 0 < CAPACITY) ⌝ }
-    ensures { λ _. ⌜ ((p : Place) (queue : List ℕ) →
+    ensures numbers { λ _. ⌜ now (own .exit) ≡ pushed (now (own .entry)) task ⌝ }
+    ensures meaning { λ _. ⌜ ((p : Place) (queue : List ℕ) →
         Stationed (now (own .entry)) p queue → Stationed (now (own .exit)) p (queue ++ task ∷ [])) ⌝ }
 {
     let n = own[QUEUED];
@@ -40,6 +42,8 @@ pub fn push(own: &mut [u64], task: u64)
 pub fn drain(own: &mut [u64], ready: &mut [u64], at: u64, n: u64) -> u64
     requires { ⌜ (length (now own) ≡ stationSize) × (length (now ready) ≡ READY) × (at < READY) × (n + getD (now own) queuedAt 0 ≤ READY)
         × (getD (now own) queuedAt 0 ≤ CAPACITY) ⌝ }
+    ensures numbers { λ r. ⌜ (r ≡ n + getD (now (own .entry)) queuedAt 0) × (now (own .exit) ≡ emptied (now (own .entry)))
+        × (now (ready .exit) ≡ drained (now (own .entry)) (now (ready .entry)) at n (getD (now (own .entry)) queuedAt 0)) ⌝ }
     ensures station { λ _. ⌜ ((p : Place) (queue : List ℕ) → Stationed (now (own .entry)) p queue → Stationed (now (own .exit)) p []) ⌝ }
     ensures ready { λ r. ⌜ ((p : Place) (queue tasks : List ℕ) →
         Stationed (now (own .entry)) p queue → entries (λ k. getD (now (ready .entry)) k 0) READY at n ≡ tasks

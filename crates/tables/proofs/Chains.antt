@@ -5,8 +5,8 @@ use mathlib.Core.Logic.{inl, ⊎-elim, _≢_}
 use mathlib.Core.List.{List}
 use mathlib.Core.Option.{Option, none, some}
 use native.Mathlib.Omega.{arith}
-use lib.ListN.{length, getD, set}
-use lib.Seq.{getD-set-same, getD-set-other, length-sets}
+use lib.ListN.{length, getD, set, drop}
+use lib.Seq.{getD-set-same, getD-set-other, length-sets, drop-set-lt}
 use lib.Dec.{eqb}
 use Rattle.runs.specs.Update.{same, order, clash}
 use Rattle.runs.specs.Stores.{sets-other, sets-at}
@@ -19,7 +19,9 @@ use Rattle.memory.specs.Layout as layout
 use Rattle.memory.specs.Codes.{optionCode}
 use Rattle.memory.specs.Rows.{Column, AccessRows, newAccess, withAccess}
 use Rattle.memory.specs.RowLaws.{column-more, column-other}
-use Rattle.tables.specs.Laid.{atAddress, followed, Follows, accessRowOf, Laid, IsAccess}
+use Rattle.tables.specs.Tables.{accessRowOf, LaidRows}
+use Rattle.tables.specs.Laid.{atAddress, followed, Follows, Laid, IsAccess}
+use Rattle.tables.proofs.Rows.{rest-more}
 
 -- ---- a row named by its number and 1 more, or by 0
 
@@ -35,18 +37,18 @@ followed-none rows (suc b) a l = absurd (omega arith)
 -- ---- one access more
 
 module _ (ts : List Task) where
-  pub laid-none : (rows : List ℕ) → Laid ts 0 rows
-  laid-none rows = record { columns = λ k b d i l. absurd (omega arith); next = λ i l. absurd (omega arith) }
+  pub laid-none : (rows : List ℕ) → Laid ts 0 rows rows
+  laid-none rows = record { columns = λ k b d i l. absurd (omega arith); next = λ i l. absurd (omega arith); rest = refl }
 
   -- the search in the rows finds the access before
-  found : (rows : List ℕ) (a : ℕ) → Laid ts a rows → lastBelow (atAddress rows (addr ts a)) a ≡ prev ts a
+  found : (before rows : List ℕ) (a : ℕ) → Laid ts a before rows → lastBelow (atAddress rows (addr ts a)) a ≡ prev ts a
   unfolding prev sameAddress
-  found rows a h =
+  found before rows a h =
       last-same (atAddress rows (addr ts a)) (sameAddress ts a) a
       (λ b l. ap (eqb (addr ts a)) (h .columns layout.address (omega arith) (λ e. omega arith) b l))
 
-module _ (ts : List Task) (rows : List ℕ) (a : ℕ) (low : a < total ts)
-    (fits : layout.accessRow * a + layout.accessRow ≤ length rows) (old : Laid ts a rows) where
+module _ (ts : List Task) (before rows : List ℕ) (a : ℕ) (low : a < total ts)
+    (fits : layout.accessRow * a + layout.accessRow ≤ length rows) (old : Laid ts a before rows) where
   -- none comes after it yet
   abbrev row : List ℕ
   row = newAccess (taskOf ts a) (reader ts a) (optionCode (prev ts a)) (total ts) (addr ts a)
@@ -92,19 +94,25 @@ module _ (ts : List Task) (rows : List ℕ) (a : ℕ) (low : a < total ts)
   columns : (k : ℕ) → k < layout.accessRow → k ≢ layout.next → Column layout.accessRow (suc a) put k (λ x. getD (accessRowOf ts x) k 0)
   columns k b d = column-more layout.accessRow a rows k b (λ x. getD (accessRowOf ts x) k 0) row b fits (row-is k d) (old .columns k b d)
 
-  alone : prev ts a ≡ none → Laid ts (suc a) put
-  alone e = record { columns = columns; next = λ x l. unlinked x l (λ w. let q : none ≡ some x = sym e ∙ w in clash (cc)) }
+  rest : drop (layout.accessRow * suc a) put ≡ drop (layout.accessRow * suc a) before
+  rest = rest-more layout.accessRow a before rows (old .rest) row refl
+
+  alone : prev ts a ≡ none → Laid ts (suc a) before put
+  alone e =
+      record { columns = columns; next = λ x l. unlinked x l (λ w. let q : none ≡ some x = sym e ∙ w in clash (cc)); rest = rest }
 
   abbrev link : ℕ → List ℕ
   link b = set put (layout.accessRow * b + layout.next) a
 
-  behind : (b : ℕ) → prev ts a ≡ some b → Laid ts (suc a) (link b)
+  behind : (b : ℕ) → prev ts a ≡ some b → Laid ts (suc a) before (link b)
   behind b e =
       record {
         columns = λ k l d.
             column-other layout.accessRow (suc a) put k l (λ x. getD (accessRowOf ts x) k 0) b layout.next a (omega arith) d
             (columns k l d);
         next = λ x l. ⊎-elim at-before (others x l) (same x b);
+        rest =
+            drop-set-lt (layout.accessRow * suc a) put (layout.accessRow * b + layout.next) a (omega (arith, prev-some ts b a e .0)) ∙ rest;
       }
     where
       at-before : {x : ℕ} → x ≡ b → Says (link b) x
@@ -121,22 +129,33 @@ module _ (ts : List Task) (rows : List ℕ) (a : ℕ) (low : a < total ts)
           rw (getD-set-other put (layout.accessRow * b + layout.next) (layout.accessRow * x + layout.next) a 0 (λ z. n (omega arith)))
           (unlinked x l (λ w. let q : some b ≡ some x = sym e ∙ w in n (cc)))
 
-  linked : (o : Option ℕ) → prev ts a ≡ o → Laid ts (suc a) (followed put (optionCode o) a)
+  linked : (o : Option ℕ) → prev ts a ≡ o → Laid ts (suc a) before (followed put (optionCode o) a)
   linked none e = alone e
   linked (some b) e = behind b e
 
-pub laid-all : (ts : List Task) (rows : List ℕ) → Laid ts (total ts) rows → AccessRows ts rows (λ _. noFlag)
-laid-all ts rows h =
+-- once all are there, each says which comes after it
+pub laid-all : (ts : List Task) (before rows : List ℕ) → Laid ts (total ts) before rows
+    → LaidRows layout.accessRow (total ts) (accessRowOf ts) before rows
+laid-all ts before rows h =
     record {
-      flags = h .columns layout.flags (omega arith) (λ e. omega arith);
-      task = h .columns layout.task (omega arith) (λ e. omega arith);
-      reader = h .columns layout.reader (omega arith) (λ e. omega arith);
-      prev = h .columns layout.prev (omega arith) (λ e. omega arith);
-      next = λ a l.
+      rows = λ k b.
+          ⊎-elim (λ (e : k ≡ layout.next). rw e (λ a l.
           ⊎-elim
           (h .next a l .0)
           (λ (k : total ts ≤ next ts a). h .next a l .1 k ∙ omega (arith, next-le ts a l))
-          (order (next ts a) (total ts));
+          (order (next ts a) (total ts)))) (λ (d : k ≢ layout.next). h .columns k b d) (same k layout.next);
+      rest = h .rest;
+    }
+
+pub new-accesses : (ts : List Task) (before rows : List ℕ) → LaidRows layout.accessRow (total ts) (accessRowOf ts) before rows
+    → AccessRows ts rows (λ _. noFlag)
+new-accesses ts before rows h =
+    record {
+      flags = h .rows layout.flags (omega arith);
+      task = h .rows layout.task (omega arith);
+      reader = h .rows layout.reader (omega arith);
+      prev = h .rows layout.prev (omega arith);
+      next = h .rows layout.next (omega arith);
     }
 
 -- what laying one access comes to: the search, the row and the word to the access before
@@ -144,7 +163,8 @@ pub laid-access : (rows put last : List ℕ) (a task reads address count before 
     → length rows ≡ layout.accessRows → a < layout.mostAccesses → before ≡ optionCode (lastBelow (atAddress rows address) a)
     → put ≡ withAccess rows a (newAccess task reads before count address)
     → last ≡ followed put before a
-    → (ts : List Task) → total ts ≡ count → IsAccess ts a task reads address → Laid ts a rows → Laid ts (suc a) last
-laid-access rows put last a task reads address count before long fits e1 e2 e3 ts e new old =
-    rw (e3, e2, e1, ← e, ← new .of, ← new .kind, ← new .at, found ts rows a old)
-    (linked ts rows a (new .low) (omega arith) old (prev ts a) refl)
+    → (ts : List Task) (start : List ℕ) → total ts ≡ count → IsAccess ts a task reads address → Laid ts a start rows
+    → Laid ts (suc a) start last
+laid-access rows put last a task reads address count before long fits e1 e2 e3 ts start e new old =
+    rw (e3, e2, e1, ← e, ← new .of, ← new .kind, ← new .at, found ts start rows a old)
+    (linked ts start rows a (new .low) (omega arith) old (prev ts a) refl)

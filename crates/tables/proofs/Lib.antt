@@ -1,4 +1,4 @@
-pub mod Searches
+pub mod Rows
 pub mod Chains
 pub mod Plans
 pub mod Tasks

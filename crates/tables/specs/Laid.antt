@@ -4,15 +4,15 @@ use mathlib.Core.Path.{_≡_}
 use mathlib.Core.Logic.{_≢_}
 use mathlib.Core.Bool.{Bool}
 use mathlib.Core.List.{List}
-use lib.ListN.{length, getD, set}
+use lib.ListN.{length, getD, set, drop}
 use lib.Dec.{eqb}
 use Rattle.plan.specs.Plan.{Task}
 use Rattle.tasks.specs.Accesses as plan
 use Rattle.tasks.specs.Accesses.{noAccess, total, addr, taskAt}
 use Rattle.kept.specs.Tasks.{touchAt, touchOf}
 use Rattle.memory.specs.Layout as layout
-use Rattle.memory.specs.Codes.{optionCode}
-use Rattle.memory.specs.Rows.{Column, newAccess}
+use Rattle.memory.specs.Rows.{Column}
+use Rattle.tables.specs.Tables.{accessRowOf}
 
 -- the access in row b is to this address
 abbrev pub atAddress : List ℕ → ℕ → ℕ → Bool
@@ -27,14 +27,11 @@ followed rows (suc b) a = set rows (layout.accessRow * b + layout.next) a
 abbrev pub Follows : List Task → ℕ → ℕ → ℕ → Type 0
 Follows ts n a y = (plan.next ts a < n → y ≡ plan.next ts a) × (n ≤ plan.next ts a → y ≡ total ts)
 
--- access a's row, with no flag set
-abbrev pub accessRowOf : List Task → ℕ → List ℕ
-accessRowOf ts a = newAccess (plan.taskOf ts a) (plan.reader ts a) (optionCode (plan.prev ts a)) (plan.next ts a) (addr ts a)
-
--- the rows are as they will be, but for the access after
-pub record Laid (ts : List Task) (n : ℕ) (rows : List ℕ) : Type 0 where
+-- the rows are as they will be, but for the access after; what is behind them is as it was before
+pub record Laid (ts : List Task) (n : ℕ) (before rows : List ℕ) : Type 0 where
   pub columns : (k : ℕ) → k < layout.accessRow → k ≢ layout.next → Column layout.accessRow n rows k (λ a. getD (accessRowOf ts a) k 0)
   pub next : (a : ℕ) → a < n → Follows ts n a (getD rows (layout.accessRow * a + layout.next) 0)
+  pub rest : drop (layout.accessRow * n) rows ≡ drop (layout.accessRow * n) before
 
 -- access a of a plan, in numbers
 pub record IsAccess (ts : List Task) (a task reads address : ℕ) : Type 0 where

@@ -2,7 +2,7 @@
 ghost use mathlib.Core.Path.{_≡_};
 ghost use mathlib.Core.Bool.{cond};
 ghost use mathlib.Core.List.{List};
-ghost use Prim.Native.Nat.{suc, _+_, _≤_, _<_};
+ghost use Prim.Native.Nat.{ℕ, suc, _+_, _≤_, _<_};
 ghost use lib.ListN.{length};
 ghost use lib.Dec.{eqb};
 ghost use Rattle.plan.specs.Plan.{Task};
@@ -12,7 +12,7 @@ ghost use Rattle.kept.specs.Layout as keep;
 ghost use Rattle.memory.specs.Layout as layout;
 ghost use Rattle.memory.specs.Codes.{optionCode};
 ghost use Rattle.tables.specs.Laid.{atAddress, followed, Laid, IsAccess, AreAccesses};
-ghost use Rattle.tables.specs.Tables.{Readable, OfPlan, NewAccesses};
+ghost use Rattle.tables.specs.Tables.{Readable, OfPlan, accessRowOf, LaidRows};
 use kept::tasks::row_at;
 use kept::tasks::touch_at;
 use memory::rows;
@@ -46,8 +46,8 @@ fn follow(accesses: &mut [u64], before: usize, a: usize)
 // Lays access a behind those before it. None comes after it yet.
 fn chain_access(accesses: &mut [u64], a: usize, task: usize, reads: u64, address: u64, total: usize)
     requires { ⌜ (length (now accesses) ≡ layout.accessRows) × (a < layout.mostAccesses) ⌝ }
-    ensures { λ _. ⌜ ((ts : List Task) → Total ts ≡ total → IsAccess ts a task reads address →
-        Laid ts a (now (accesses .entry)) → Laid ts (suc a) (now (accesses .exit))) ⌝ }
+    ensures { λ _. ⌜ ((ts : List Task) (start : List ℕ) → Total ts ≡ total → IsAccess ts a task reads address →
+        Laid ts a start (now (accesses .entry)) → Laid ts (suc a) start (now (accesses .exit))) ⌝ }
 {
     let before = previous(accesses, a, address);
     rows::lay_access(
@@ -76,8 +76,8 @@ fn reads_of(writes: u64) -> u64
 fn lay_accesses(accesses: &mut [u64], plan: &[u64], n: usize, task: usize, at: usize, total: usize)
     requires { ⌜ (length (now accesses) ≡ layout.accessRows) × (length (now plan) ≡ keep.taskRows)
         × (n ≤ keep.mostTaskAccesses) × (task < keep.mostTasks) × (at + n ≤ layout.mostAccesses) ⌝ }
-    ensures { λ _. ⌜ ((ts : List Task) → Total ts ≡ total → AreAccesses ts task at n (now (plan .entry)) →
-        Laid ts at (now (accesses .entry)) → Laid ts (at + n) (now (accesses .exit))) ⌝ }
+    ensures { λ _. ⌜ ((ts : List Task) (start : List ℕ) → Total ts ≡ total → AreAccesses ts task at n (now (plan .entry)) →
+        Laid ts at start (now (accesses .entry)) → Laid ts (at + n) start (now (accesses .exit))) ⌝ }
 {
     let mut k: usize = 0;
     while k < n {
@@ -98,7 +98,8 @@ fn lay_accesses(accesses: &mut [u64], plan: &[u64], n: usize, task: usize, at: u
 pub fn lay_plan_accesses(plan: &[u64], count: usize, accesses: &mut [u64], total: usize)
     requires { ⌜ (length (now plan) ≡ keep.taskRows) × (length (now accesses) ≡ layout.accessRows) ⌝ }
     requires { ⌜ Readable (now plan) count ⌝ }
-    ensures { λ _. ⌜ OfPlan (now (plan .entry)) count (λ text p. total ≡ Total (p .tasks) → NewAccesses p (now (accesses .exit))) ⌝ }
+    ensures { λ _. ⌜ OfPlan (now (plan .entry)) count (λ text p. total ≡ Total (p .tasks) →
+        LaidRows layout.accessRow total (accessRowOf (p .tasks)) (now (accesses .entry)) (now (accesses .exit))) ⌝ }
 {
     let mut at: usize = 0;
     let mut i: usize = 0;

@@ -4,8 +4,7 @@ ghost use lib.ListN.{length};
 ghost use Rattle.tasks.specs.Accesses.{total};
 ghost use Rattle.kept.specs.Layout as keep;
 ghost use Rattle.memory.specs.Layout as layout;
-ghost use Rattle.memory.specs.Labels.{Labels};
-ghost use Rattle.tables.specs.Tables.{Readable, OfPlan, NewTasks};
+ghost use Rattle.tables.specs.Tables.{Readable, OfPlan, taskRowOf, labelRowOf, LaidRows};
 use kept::tasks::row_at;
 use memory::labels::lay_label;
 use memory::rows::lay_task;
@@ -16,7 +15,9 @@ pub fn lay_plan_tasks(plan: &[u64], count: usize, tasks: &mut [u64], labels: &mu
         × (length (now labels) ≡ layout.labelRows) ⌝ }
     requires { ⌜ Readable (now plan) count ⌝ }
     ensures { λ r. ⌜ OfPlan (now (plan .entry)) count (λ text p.
-        NewTasks p (now (tasks .exit)) × Labels (p .tasks) text (now (labels .exit)) × (r ≡ total (p .tasks))) ⌝ }
+        LaidRows layout.taskRow count (taskRowOf (p .tasks)) (now (tasks .entry)) (now (tasks .exit))
+        × LaidRows layout.labelRow count (labelRowOf (now (plan .entry))) (now (labels .entry)) (now (labels .exit))
+        × (r ≡ total (p .tasks))) ⌝ }
 {
     let mut total: usize = 0;
     let mut i: usize = 0;

@@ -23,7 +23,7 @@ returns c =
     let at-go = c .before .before in
     let start = at-go .before .before .before in
     gone (start .args .own .now) (at-go .go .last .0) (start .args .place) (start .args .number) (start .pre) (at-go .go .kept .0)
-    (at-go .go .ensures)
+    (at-go .go .ensures .1)
 
 pub go-to-spec : {M : Type 1} → statement M
 go-to-spec = tie.close (tie.spec slice-relend-prefix-go slice-aggregate-go go-requires same-length returns)

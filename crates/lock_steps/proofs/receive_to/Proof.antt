@@ -34,7 +34,7 @@ returns c =
     let receive = at-receive .receive in
     let gone = at-go-to .go-to in
     received (x .own .now) (receive .last .1 .0) (start .pre .2) (x .rows .now) (receive .last .0) (gone .last .0)
-    (x .task) (x .w) (x .time) (x .place) (receive .ensures) (gone .ensures)
+    (x .task) (x .w) (x .time) (x .place) (receive .ensures .1) (gone .ensures)
 
 pub receive-to-spec : {M : Type 1} → statement M
 receive-to-spec =

@@ -55,7 +55,7 @@ able c = still-able (c .loop .inv) (begun c .pre)
 -- whether it is finished
 tells : (c : tie.After-is-finished Inv-loop μ-loop) (k : Setup) (s : State)
     → Holds k (held (looped c)) (share (looped c .loop .store)) s → c .is-finished .result ≡ finished k s
-tells c k s h = c .is-finished .ensures (held (looped c)) k s (share (looped c .loop .store)) h
+tells c k s h = c .is-finished .ensures .1 (held (looped c)) k s (share (looped c .loop .store)) h
 
 loop-holds : tie.Need-loop-holds Inv-loop μ-loop
 loop-holds c = goes-start

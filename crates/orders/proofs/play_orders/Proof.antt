@@ -179,7 +179,7 @@ returns-2 : tie.Need-returns-2 Inv-loop μ-loop
 returns-2 c =
     let l = line-over (c .before .before .before) in
     played-finished (plays l)
-    (λ k s h. sym (c .if2 .taken) ∙ c .before .is-finished .ensures (then l) k s (share (then-store l)) h)
+    (λ k s h. sym (c .if2 .taken) ∙ c .before .is-finished .ensures .1 (then l) k s (share (then-store l)) h)
 
 add-i : tie.Need-add-i Inv-loop μ-loop
 add-i c =

@@ -100,7 +100,7 @@ drained-requires c κs =
     let w = s .args .w in
     let k = drains s in
     let one = d .drain .last .0 in
-    let emptied = rw (station-lent store k (below s) (s .pre .0 .0)) at (d .drain .ensures .0) in
+    let emptied = rw (station-lent store k (below s) (s .pre .0 .0)) at (d .drain .ensures .1 .0) in
     let stations = emptied-stations holds fit (s .pre .0 .2) (drains-is s) emptied in
     let lent =
     second-lent store k w (below s) (s .pre .0 .1) (s .pre .0 .0) one (d .drain .kept .0) ∙ ap (λ (f : ℕ → List ℕ). f w) stations in
@@ -125,13 +125,13 @@ returns c =
     let long = s .pre .0 .0 in
     let few = s .pre .0 .1 in
     let lent = station-lent store k (below s) long in
-    let emptied = rw lent at (d .drain .ensures .0) in (
+    let emptied = rw lent at (d .drain .ensures .1 .0) in (
       λ m setup state holds fit.
           let stations = emptied-stations holds fit (s .pre .0 .2) (drains-is s) emptied in
           let lent2 = second-lent store k w (below s) few long one (d .drain .kept .0) ∙ ap (λ (f : ℕ → List ℕ). f w) stations in
           rw (both-shares store k w (below s) few long one (d .drain .kept .0) two (e .drained .kept .0))
           (drain-acts holds fit (s .pre .0 .2) (drains-is s) emptied two (d .drain .last .1 .0) (d .drain .result)
-          (rw lent at (d .drain .ensures .1))
+          (rw lent at (d .drain .ensures .1 .1))
           (λ x q. rw lent2 at (e .drained .ensures setup x q (holds .device .workers)))),
       both-later store k w (below s) few long one (d .drain .kept .0) two (e .drained .kept .0),
     )

@@ -32,7 +32,7 @@ returns : tie.Need-returns
 returns c setup p queue few h =
     let b = c .before .before .before .before in
     let k = b .before .before .before .args .k in
-    c .before .before .go .ensures (draining p k) (nextDrain setup p k) queue h
+    c .before .before .go .ensures .1 (draining p k) (nextDrain setup p k) queue h
     (coded-more setup p k _ _ (h .place) (omega (arith, few, b .if1 .taken)))
 
 same-length-2 : tie.Need-same-length-2
@@ -42,7 +42,7 @@ returns-2 : tie.Need-returns-2
 returns-2 c setup p queue few h =
     let b = c .before .before .before .before in
     let k = b .before .before .before .before .args .k in
-    c .before .before .go2 .ensures (draining p k) (nextDrain setup p k) queue h
+    c .before .before .go2 .ensures .1 (draining p k) (nextDrain setup p k) queue h
     (coded-serving setup p k _ _ (h .place) (omega (arith, few, b .before .if1 .left)) (b .if2 .taken))
 
 same-length-3 : tie.Need-same-length-3
@@ -52,7 +52,7 @@ returns-3 : tie.Need-returns-3
 returns-3 c setup p queue few h =
     let b = c .before .before .before .before in
     let k = b .before .before .before .before .args .k in
-    c .before .before .go3 .ensures (draining p k) (nextDrain setup p k) queue h
+    c .before .before .go3 .ensures .1 (draining p k) (nextDrain setup p k) queue h
     (coded-leaving setup p k _ _ (h .place) (omega (arith, few, b .before .if1 .left)) (b .if2 .left))
 
 pub drained-spec : {M : Type 1} → statement M

@@ -8,9 +8,12 @@ is-finished-requires : tie.Need-is-finished-requires
 is-finished-requires c κs = tt
 
 returns : tie.Need-returns
-returns c m setup s shares h =
-    c .is-finished .ensures (T.memory (c .before .before .args .n .tally) (m .rows) (m .accesses)) (setup .workers) (setup .tasks)
-    (λ v. part (shares v)) (s .tasks) (s .stand) (h .tasks)
+returns c = (
+  c .is-finished .ensures .0,
+  λ m setup s shares h.
+      c .is-finished .ensures .1 (T.memory (c .before .before .args .n .tally) (m .rows) (m .accesses)) (setup .workers) (setup .tasks)
+      (λ v. part (shares v)) (s .tasks) (s .stand) (h .tasks),
+)
 
 pub is-finished-spec : {M : Type 1} → statement M
 is-finished-spec = tie.close (tie.spec is-finished-requires returns)

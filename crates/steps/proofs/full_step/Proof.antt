@@ -29,7 +29,7 @@ returns c m setup s shares lent long h fit =
     let a : Able (withCounts m (x .n)) (x .own .now) (x .w) =
     record { c = setup; s = s; shares = shares; lent = lent; long = long; holds = h; fit = fit } in
     let (_, at, stand, mail, adds, full) = start .pre in
-    full-acts a at stand mail adds full (gone .go .last .0) (λ p q k. gone .go .ensures p trying q k refl)
+    full-acts a at stand mail adds full (gone .go .last .0) (λ p q k. gone .go .ensures .1 p trying q k refl)
 
 pub full-step-spec : {M : Type 1} → statement M
 full-step-spec =

@@ -71,9 +71,9 @@ returns c m setup s shares lent long h fit =
     let tasks = T.memory (x .n .tally) (m .rows) (m .accesses) in
     rw (part-back own (own-long a) y)
     (push-acts a at stand mail adds room y z _
-    (λ i is e. d .give .ensures .1 tasks (x .w) (tasks-able a (part-lent own (own-long a))) i is e)
-    (λ i is. d .give .ensures .0 tasks (x .n .picks) (x .w) i is)
-    (λ p q k. e .push .ensures p q (rw (same-station start y) k)))
+    (λ i is e. d .give .ensures .1 .1 tasks (x .w) (tasks-able a (part-lent own (own-long a))) i is e)
+    (λ i is. d .give .ensures .1 .0 tasks (x .n .picks) (x .w) i is)
+    (λ p q k. e .push .ensures .1 p q (rw (same-station start y) k)))
 
 pub push-step-spec : {M : Type 1} → statement M
 push-step-spec =

@@ -1,6 +1,8 @@
 -- `tables::lay_out` meets its contract: the accesses are as many as the tasks say.
 -- Assumes nothing.
 use borrow.Author.Needs.{needs}
+use Rattle.tables.proofs.Tasks.{new-tasks, new-labels}
+use Rattle.tables.proofs.Chains.{new-accesses}
 use Rattle.tables.proofs.lay_out.Statement.{statement}
 use Rattle.tables.proofs.lay_out.Tie as tie
 
@@ -20,10 +22,21 @@ same-length-3 : tie.Need-same-length-3
 same-length-3 c = search needs
 
 returns : tie.Need-returns
-returns c text p e size has =
-    let laid = c .before .before .before .before .before .before .before .before .lay-plan-tasks in
-    let (rows, labels, total) = laid .ensures text p e size has in
-    (rows, c .before .before .lay-plan-accesses .ensures text p e size has total, labels)
+returns c =
+    let laying = c .before .before .before .before .before .before .before .before in
+    let a = laying .before .before .before .before .before .before .before .args in
+    let numbers = laying .lay-plan-tasks .ensures in
+    let others = c .before .before .lay-plan-accesses .ensures in (
+      λ text p e size has.
+          let (rows, labels, total) = numbers text p e size has in
+          (rows, rw total at (others text p e size has total), labels),
+      λ text p e size has.
+          let (rows, labels, total) = numbers text p e size has in (
+            new-tasks text p e (a .count) size (a .plan .now) has _ _ rows,
+            new-accesses (p .tasks) _ _ (rw total at (others text p e size has total)),
+            new-labels text p e (a .count) size (a .plan .now) has _ _ labels,
+          ),
+    )
 
 pub lay-out-spec : {M : Type 1} → statement M
 lay-out-spec =

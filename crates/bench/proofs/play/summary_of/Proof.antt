@@ -16,8 +16,8 @@ returns c =
     let start = c .before .before .before .before .before .args in (
       (refl, refl, refl, refl),
       λ m d s h. (
-        c .before .is-finished .ensures m d s (share (start .store .now)) h,
-        c .find-owner .ensures d (withCounts m (start .n)) s h (h .device .workers),
+        c .before .is-finished .ensures .1 m d s (share (start .store .now)) h,
+        c .find-owner .ensures .1 d (withCounts m (start .n)) s h (h .device .workers),
       ),
     )
 

@@ -34,9 +34,9 @@ linked c m w a l =
     let message = linkMessage (a .ts) x in
     let prev = a .holds .access-rows .prev x (access-below a (s .pre .2) l) in
     ⊎-elim
-    (λ z. rw (z .5) (z .2 .ensures (a .st w) (a .t .mail w) (a .t .adds w) message (own-stored a)
+    (λ z. rw (z .5) (z .2 .ensures .1 (a .st w) (a .t .mail w) (a .t .adds w) message (own-stored a)
     (first-letter (a .ts) x _ prev (z .0 .taken))))
-    (λ z. rw (z .5) (z .2 .ensures (a .st w) (a .t .mail w) (a .t .adds w) message (own-stored a)
+    (λ z. rw (z .5) (z .2 .ensures .1 (a .st w) (a .t .mail w) (a .t .adds w) message (own-stored a)
     (later-letter (a .ts) x _ prev (z .0 .left))))
     (c .if1 .came)
 

@@ -14,25 +14,25 @@ mul-row : tie.Need-mul-row
 mul-row c =
     let take = c .before .before in
     let s = take .before .before .before .before .before in
-    omega (arith, flags-fit (s .pre .0 .1) (s .pre .1) (s .pre .2) (take .take-mail .ensures) .1)
+    omega (arith, flags-fit (s .pre .0 .1) (s .pre .1) (s .pre .2) (take .take-mail .ensures .1) .1)
 
 set-flags-requires : tie.Need-set-flags-requires
 set-flags-requires c κs =
     let take = c .before .before .before in
     let s = take .before .before .before .before .before in
-    flags-fit (s .pre .0 .1) (s .pre .1) (s .pre .2) (take .take-mail .ensures)
+    flags-fit (s .pre .0 .1) (s .pre .1) (s .pre .2) (take .take-mail .ensures .1)
 
 add-pass-on : tie.Need-add-pass-on
 add-pass-on c =
     let take = c .before .before .before .before .before .before .before in
     let s = take .before .before .before .before .before in
-    omega (arith, flags-fit (s .pre .0 .1) (s .pre .1) (s .pre .2) (take .take-mail .ensures) .1)
+    omega (arith, flags-fit (s .pre .0 .1) (s .pre .1) (s .pre .2) (take .take-mail .ensures .1) .1)
 
 mul-pass-on : tie.Need-mul-pass-on
 mul-pass-on c =
     let take = c .before .before .before .before .before .before .before in
     let s = take .before .before .before .before .before in
-    omega (arith, flags-fit (s .pre .0 .1) (s .pre .1) (s .pre .2) (take .take-mail .ensures) .1)
+    omega (arith, flags-fit (s .pre .0 .1) (s .pre .1) (s .pre .2) (take .take-mail .ensures .1) .1)
 
 slice-read-pass-on : tie.Need-slice-read-pass-on
 slice-read-pass-on c =
@@ -41,9 +41,9 @@ slice-read-pass-on c =
     let s = take .before .before .before .before .before in
     omega (
       arith,
-      flags-fit (s .pre .0 .1) (s .pre .1) (s .pre .2) (take .take-mail .ensures) .1,
+      flags-fit (s .pre .0 .1) (s .pre .1) (s .pre .2) (take .take-mail .ensures .1) .1,
       rows-long (s .pre .0 .1) (s .pre .1)
-          (s .pre .2) (take .take-mail .ensures) (put .set-flags .ensures .0) (put .set-flags .ensures .1),
+          (s .pre .2) (take .take-mail .ensures .1) (put .set-flags .ensures .0) (put .set-flags .ensures .1),
     )
 
 pass-on-requires : tie.Need-pass-on-requires
@@ -51,7 +51,7 @@ pass-on-requires c κs =
     let put = c .before .before .before .before in
     let take = put .before .before .before .before in
     let s = take .before .before .before .before .before in
-    pass-fits (s .pre .0 .1) (s .pre .1) (s .pre .2) (take .take-mail .ensures) (put .set-flags .ensures .0) (put .set-flags .ensures .1)
+    pass-fits (s .pre .0 .1) (s .pre .1) (s .pre .2) (take .take-mail .ensures .1) (put .set-flags .ensures .0) (put .set-flags .ensures .1)
 
 give-notice-requires : tie.Need-give-notice-requires
 give-notice-requires c κs =
@@ -59,7 +59,7 @@ give-notice-requires c κs =
     let put = pass .before .before .before .before .before in
     let take = put .before .before .before .before in
     let s = take .before .before .before .before .before in
-    give-fits (s .pre .0 .1) (s .pre .1) (s .pre .2) (take .take-mail .ensures) (put .set-flags .ensures .0) (put .set-flags .ensures .1)
+    give-fits (s .pre .0 .1) (s .pre .1) (s .pre .2) (take .take-mail .ensures .1) (put .set-flags .ensures .0) (put .set-flags .ensures .1)
     (pass .pass-on .ensures)
 
 add-lower : tie.Need-add-lower
@@ -67,14 +67,14 @@ add-lower c =
     let half = c .before .before .before .before .before .before .before .before in
     let take = half .before .before .before .before .before .before .before .before .before in
     let s = take .before .before .before .before .before in
-    omega (arith, flags-fit (s .pre .0 .1) (s .pre .1) (s .pre .2) (take .take-mail .ensures) .1)
+    omega (arith, flags-fit (s .pre .0 .1) (s .pre .1) (s .pre .2) (take .take-mail .ensures .1) .1)
 
 mul-lower : tie.Need-mul-lower
 mul-lower c =
     let half = c .before .before .before .before .before .before .before .before in
     let take = half .before .before .before .before .before .before .before .before .before in
     let s = take .before .before .before .before .before in
-    omega (arith, flags-fit (s .pre .0 .1) (s .pre .1) (s .pre .2) (take .take-mail .ensures) .1)
+    omega (arith, flags-fit (s .pre .0 .1) (s .pre .1) (s .pre .2) (take .take-mail .ensures .1) .1)
 
 slice-read-lower : tie.Need-slice-read-lower
 slice-read-lower c =
@@ -83,9 +83,9 @@ slice-read-lower c =
     let s = take .before .before .before .before .before in
     omega (
       arith,
-      flags-fit (s .pre .0 .1) (s .pre .1) (s .pre .2) (take .take-mail .ensures) .1,
+      flags-fit (s .pre .0 .1) (s .pre .1) (s .pre .2) (take .take-mail .ensures .1) .1,
       rows-long (s .pre .0 .1) (s .pre .1)
-          (s .pre .2) (take .take-mail .ensures) (put .set-flags .ensures .0) (put .set-flags .ensures .1),
+          (s .pre .2) (take .take-mail .ensures .1) (put .set-flags .ensures .0) (put .set-flags .ensures .1),
     )
 
 lower-requires : tie.Need-lower-requires
@@ -95,7 +95,7 @@ lower-requires c κs =
     let put = pass .before .before .before .before .before in
     let take = put .before .before .before .before in
     let s = take .before .before .before .before .before in
-    lower-fits (s .pre .0 .1) (s .pre .1) (s .pre .2) (take .take-mail .ensures) (put .set-flags .ensures .0)
+    lower-fits (s .pre .0 .1) (s .pre .1) (s .pre .2) (take .take-mail .ensures .1) (put .set-flags .ensures .0)
     (put .set-flags .ensures .1) (pass .pass-on .ensures) (give .give-notice .ensures)
 
 sub-r : tie.Need-sub-r
@@ -111,7 +111,7 @@ add-r c =
     let put = pass .before .before .before .before .before in
     let take = put .before .before .before .before in
     let s = take .before .before .before .before .before in
-    let counts = counts-fit (s .pre .0 .1) (s .pre .1) (s .pre .2) (take .take-mail .ensures) (put .set-flags .ensures .0)
+    let counts = counts-fit (s .pre .0 .1) (s .pre .1) (s .pre .2) (take .take-mail .ensures .1) (put .set-flags .ensures .0)
     (put .set-flags .ensures .1) (pass .pass-on .ensures) (give .give-notice .ensures) in
     omega (arith, pending-fits (s .pre .0 .1) (s .pre .1) (s .pre .2), counts)
 
@@ -122,7 +122,7 @@ add-r-2 c =
     let put = pass .before .before .before .before .before in
     let take = put .before .before .before .before in
     let s = take .before .before .before .before .before in
-    let counts = counts-fit (s .pre .0 .1) (s .pre .1) (s .pre .2) (take .take-mail .ensures) (put .set-flags .ensures .0)
+    let counts = counts-fit (s .pre .0 .1) (s .pre .1) (s .pre .2) (take .take-mail .ensures .1) (put .set-flags .ensures .0)
     (put .set-flags .ensures .1) (pass .pass-on .ensures) (give .give-notice .ensures) in
     omega (arith, pending-fits (s .pre .0 .1) (s .pre .1) (s .pre .2), counts)
 
@@ -143,7 +143,7 @@ returns c k w a op is =
     let put = pass .before .before .before .before .before in
     let take = put .before .before .before .before in
     let s = take .before .before .before .before .before in
-    delivered a (s .pre .1) (s .pre .2) (take .take-mail .ensures) (put .set-flags .ensures .0) (put .set-flags .ensures .1)
+    delivered a (s .pre .1) (s .pre .2) (take .take-mail .ensures .1) (put .set-flags .ensures .0) (put .set-flags .ensures .1)
     (pass .pass-on .ensures) (give .give-notice .ensures) (lower .lower .ensures) k op is
 
 pub deliver-spec : {M : Type 1} → statement M

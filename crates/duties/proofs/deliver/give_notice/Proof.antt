@@ -23,7 +23,7 @@ same-length c = search needs
 returns-2 : tie.Need-returns-2
 returns-2 c m mail adds h once is from =
     let (coded, one) = notice-some m (m .sender) _ _ once is from (c .before .before .before .before .if1 .left) in
-    (c .before .before .stand .ensures free _ mail adds h coded, one)
+    (c .before .before .stand .ensures .1 free _ mail adds h coded, one)
 
 pub give-notice-spec : {M : Type 1} → statement M
 give-notice-spec = tie.close (tie.spec returns sub-stand stand-requires same-length returns-2)

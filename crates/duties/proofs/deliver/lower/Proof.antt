@@ -94,7 +94,7 @@ returns-3 c ts s w p mail within h k =
       rows-out ts (a .rows .now) s w (a .task) (a .by) (start .pre .0 .0) (start .pre .0 .1) within h some least,
       adds-out ts (a .rows .now) s w (a .task) (a .by) (start .pre .0 .0) (start .pre .0 .1) within h (c .before .before .add .last .0) p
           mail some least
-          (c .before .before .add .ensures p mail (s .adds w) k),
+          (c .before .before .add .ensures .1 p mail (s .adds w) k),
     )
 
 pub lower-spec : {M : Type 1} → statement M

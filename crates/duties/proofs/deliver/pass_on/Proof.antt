@@ -28,7 +28,7 @@ returns-2 : tie.Need-returns-2
 returns-2 c ts e f reader p mail adds h to is-reader is =
     let start = c .before .before .before .before .before .before in
     let (m, one, told) = passed-one ts (start .args .sender) e f reader _ is-reader is (c .before .before .before .before .if1 .left) in
-    rw one (c .before .before .post .ensures p mail adds m h (rw (← to) at told), refl)
+    rw one (c .before .before .post .ensures .1 p mail adds m h (rw (← to) at told), refl)
 
 pub pass-on-spec : {M : Type 1} → statement M
 pass-on-spec = tie.close (tie.spec returns add-post post-requires same-length returns-2)

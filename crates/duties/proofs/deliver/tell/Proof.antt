@@ -57,7 +57,7 @@ same-length-2 c = search needs
 returns : tie.Need-returns
 returns c m k w a op is =
     let start = c .before .before .before .before .before .before .before .before .before .before in
-    let stood = c .before .before .before .stand .ensures (a .st w) free (a .t .mail w) (a .t .adds w) (own-stored a) refl in
+    let stood = c .before .before .before .stand .ensures .1 (a .st w) free (a .t .mail w) (a .t .adds w) (own-stored a) refl in
     told a (start .pre .1) _ stood k op is
 
 pub tell-spec : {M : Type 1} → statement M

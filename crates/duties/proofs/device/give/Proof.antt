@@ -16,12 +16,14 @@ same-length : tie.Need-same-length
 same-length c = search needs
 
 returns : tie.Need-returns
-returns c = (
-  λ m k w i is a can.
-      let taken = c .before .before .take-add .ensures (a .st w) (a .t .mail w) i is (rw (first-add a can) at (own-stored a)) in
-      gave a i is _ (taken .1) k,
-  λ m w a i is e. c .before .before .take-add .ensures (a .st w) (a .t .mail w) i is (rw e at (own-stored a)) .0,
-)
+returns c =
+    let (numbers, meaning) = c .before .before .take-add .ensures in (
+      numbers,
+      (
+        λ m k w i is a can. gave a i is _ (meaning (a .st w) (a .t .mail w) i is (rw (first-add a can) at (own-stored a)) .1) k,
+        λ m w a i is e. meaning (a .st w) (a .t .mail w) i is (rw e at (own-stored a)) .0,
+      ),
+    )
 
 pub give-spec : {M : Type 1} → statement M
 give-spec = tie.close (tie.spec take-add-requires same-length returns)

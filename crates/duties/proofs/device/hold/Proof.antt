@@ -1,4 +1,5 @@
 -- `device::hold` meets its contract.
+use mathlib.Core.Path.{refl}
 use Rattle.duties.proofs.Dealing.{heldOut}
 use borrow.Author.Needs.{needs}
 use Rattle.duties.proofs.device.hold.Statement.{statement}
@@ -20,7 +21,7 @@ same-length : tie.Need-same-length
 same-length c = search needs
 
 returns : tie.Need-returns
-returns c m own k w a can = heldOut a (c .args .task) k can
+returns c = (refl, λ m own k w a can. heldOut a (c .args .task) k can)
 
 pub hold-spec : {M : Type 1} → statement M
 hold-spec = tie.close (tie.spec mul-row add-rows mul-rows slice-write-rows same-length returns)

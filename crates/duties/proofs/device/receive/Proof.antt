@@ -8,7 +8,7 @@ use Rattle.tasks.specs.Tasks.{working}
 use Rattle.memory.specs.Shares.{Stored}
 use Rattle.memory.specs.Memory.{memory, Able}
 use Rattle.duties.proofs.Held.{own-stored}
-use Rattle.duties.proofs.Working.{cost-at, take-within, receive-within, taken, fetched}
+use Rattle.duties.proofs.Working.{received-cost, cost-at, take-within, receive-within, taken, fetched}
 use borrow.Author.Needs.{needs}
 use Rattle.memory.proofs.share.stand.Reads as stand-reads
 use Rattle.duties.proofs.device.receive.Statement.{statement}
@@ -63,16 +63,20 @@ same-length-2 : tie.Need-same-length-2
 same-length-2 c = search needs
 
 returns : tie.Need-returns
-returns c m =
+returns c =
     let x = c .before .before .before .before .before .before .before .args in
     let i = x .task in
     let w = x .w in
-    let stood : (a : Able (memory (m .tally) (x .rows .now) (m .accesses)) (x .own .now) w) → i < length (a .ts)
-    → Stored _ (working i (taskAt (a .ts) i .cost)) (a .t .mail w) (a .t .adds w) =
-    λ a l. c .before .before .stand .ensures (a .st w) (working i (taskAt (a .ts) i .cost)) (a .t .mail w) (a .t .adds w) (own-stored a)
-    (refl, refl, cost-at a i (x .time) l) in (
-      λ a can. taken a i (x .time) _ (stood a (take-within a i can)) can,
-      λ a can. fetched a i (x .time) _ (stood a (receive-within a i can)) can,
+    let (numbers, meaning) = c .before .before .stand .ensures in (
+      (refl, rw (received-cost (x .rows .now) i w (x .time)) at numbers),
+      λ m.
+          let stood : (a : Able (memory (m .tally) (x .rows .now) (m .accesses)) (x .own .now) w) → i < length (a .ts)
+          → Stored _ (working i (taskAt (a .ts) i .cost)) (a .t .mail w) (a .t .adds w) =
+          λ a l. meaning (a .st w) (working i (taskAt (a .ts) i .cost)) (a .t .mail w) (a .t .adds w) (own-stored a)
+          (refl, refl, cost-at a i (x .time) l) in (
+            λ a can. taken a i (x .time) _ (stood a (take-within a i can)) can,
+            λ a can. fetched a i (x .time) _ (stood a (receive-within a i can)) can,
+          ),
     )
 
 pub receive-spec : {M : Type 1} → statement M

@@ -91,7 +91,7 @@ returns c m w a op is =
     let first = ended-first a (x .time) i 0 p in
     let count = ended-count a (x .time) i 0 p in
     let posted = post .post-done .ensures (a .ts) i (a .st w) (a .t .mail w) (a .t .adds w) (own-stored a) first count in
-    let stood = stand .stand .ensures (a .st w) free _ (a .t .adds w) posted refl in
+    let stood = stand .stand .ensures .1 (a .st w) free _ (a .t .adds w) posted refl in
     ends-holds a (x .time) i p _ stood op is
 
 pub end-spec : {M : Type 1} → statement M

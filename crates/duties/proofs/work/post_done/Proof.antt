@@ -59,7 +59,7 @@ loop-again : tie.Need-loop-again Inv-loop μ-loop
 loop-again c =
     let l = c .before .before .before .before .before .loop in
     let s = c .before .before .before .before .before .before .before in
-    let posted = c .before .before .post .ensures in
+    let posted = c .before .before .post .ensures .1 in
     let first = s .args .first in (
       omega arith,
       λ p mail adds h. rw (dones-more mail first (l .k)) (posted p (mail ++ donesFrom first (l .k)) adds (plain (first + l .k) DONE)

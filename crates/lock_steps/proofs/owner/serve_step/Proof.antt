@@ -111,7 +111,7 @@ returns-2 c m =
     let told = fronts a (at-front-waiter .front-waiter .ensures) (x .1) in
     rw (c .one-taken .ensures)
     (fill-acts a (start .pre .1) any (x .0 .0 .0) told (at-if2 .if2 .taken)
-    (fill .last .1 .0) (fill .last .1 .1 .0) (hold .last .0) (gone .last .0) (fill .ensures) (hold .ensures) (gone .ensures)))
+    (fill .last .1 .0) (fill .last .1 .1 .0) (hold .last .0) (gone .last .0) (fill .ensures) (hold .ensures .1) (gone .ensures)))
 
 enum-told : tie.Need-enum-told
 enum-told c = search needs

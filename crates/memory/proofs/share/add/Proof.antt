@@ -1,4 +1,5 @@
 -- `share::add` meets its contract.
+use mathlib.Core.Path.{refl}
 use Rattle.memory.specs.StoringLaws.{stored-add}
 use borrow.Author.Needs.{needs}
 use Rattle.memory.proofs.share.add.Statement.{statement}
@@ -32,9 +33,9 @@ same-length : tie.Need-same-length
 same-length c = search needs
 
 returns : tie.Need-returns
-returns c p mail adds h =
+returns c =
     let s = c .before .before in
-    stored-add h (s .args .task) (s .pre .2)
+    (refl, λ p mail adds h. stored-add h (s .args .task) (s .pre .2))
 
 pub add-spec : {M : Type 1} → statement M
 add-spec =

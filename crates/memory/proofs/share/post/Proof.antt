@@ -1,4 +1,5 @@
 -- `share::post` meets its contract.
+use mathlib.Core.Path.{refl}
 use native.Mathlib.Omega.{arith}
 use lib.ListN.{length-set}
 use Rattle.memory.specs.StoringLaws.{stored-post}
@@ -58,9 +59,9 @@ same-length : tie.Need-same-length
 same-length c = search needs
 
 returns : tie.Need-returns
-returns c p mail adds m h is =
+returns c =
     let s = c .before .before in
-    stored-post h (s .pre .2) (s .args .to) (s .args .flags) (s .args .sender) m is
+    (refl, λ p mail adds m h is. stored-post h (s .pre .2) (s .args .to) (s .args .flags) (s .args .sender) m is)
 
 pub post-spec : {M : Type 1} → statement M
 post-spec =

@@ -1,4 +1,5 @@
 -- `share::stand` meets its contract.
+use mathlib.Core.Path.{refl}
 use Rattle.memory.specs.StoringLaws.{stored-stand}
 use borrow.Author.Needs.{needs}
 use Rattle.memory.proofs.share.stand.Statement.{statement}
@@ -17,7 +18,7 @@ same-length : tie.Need-same-length
 same-length c = search needs
 
 returns : tie.Need-returns
-returns c p to mail adds h coded = stored-stand h (c .args .code) (c .args .about) (c .args .left) to coded
+returns c = (refl, λ p to mail adds h coded. stored-stand h (c .args .code) (c .args .about) (c .args .left) to coded)
 
 pub stand-spec : {M : Type 1} → statement M
 stand-spec =

@@ -39,9 +39,9 @@ same-length : tie.Need-same-length
 same-length c = search needs
 
 returns : tie.Need-returns
-returns c p mail i adds h =
+returns c =
     let s = c .before .before .before in
-    rw (still (s .args .own .now) layout.addsAt _ layout.addsCount refl) (stored-take-add h)
+    rw (still (s .args .own .now) layout.addsAt _ layout.addsCount refl) ((refl, refl), λ p mail i adds h. stored-take-add h)
 
 pub take-add-spec : {M : Type 1} → statement M
 take-add-spec =

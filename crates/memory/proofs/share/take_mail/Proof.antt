@@ -63,9 +63,9 @@ same-length : tie.Need-same-length
 same-length c = search needs
 
 returns : tie.Need-returns
-returns c p m mail adds h =
+returns c =
     let s = c .before .before .before .before .before in
-    rw (still (s .args .own .now) layout.mailAt _ layout.mailCount refl) (stored-take-mail h)
+    rw (still (s .args .own .now) layout.mailAt _ layout.mailCount refl) ((refl, refl), λ p m mail adds h. stored-take-mail h)
 
 pub take-mail-spec : {M : Type 1} → statement M
 take-mail-spec =

@@ -3,12 +3,14 @@ use Prim.Native.Nat.{_+_, _-_, _≤_}
 use mathlib.Core.Path.{_≡_, refl}
 use mathlib.Core.List.{_++_, append-nil}
 use native.Mathlib.Nat.{add-zero}
+use native.Mathlib.Numerals.{add-one}
 use native.Mathlib.Omega.{arith}
 use lib.ListN.{length, getD, length-set}
 use borrow.Author.Needs.{needs}
 use Rattle.runs.specs.Circular.{entries}
 use Rattle.steps.specs.Layout.{queuedAt, queueSlots, READY}
 use Rattle.runs.specs.Circular.{entries-none}
+use Rattle.steps.specs.Memory.{drained}
 use Rattle.steps.proofs.Stations.{queueSlot, stationed-drained, drain-turn}
 use Rattle.steps.proofs.station.drain.Statement.{statement}
 use Rattle.steps.proofs.station.drain.Tie as tie
@@ -18,6 +20,7 @@ Inv-loop own ready₀ at n count i₀ ready i =
     (i ≤ count)
     × (count ≡ getD own queuedAt 0)
     × (length ready ≡ length ready₀)
+    × (ready ≡ drained own ready₀ at n i)
     × (entries (λ k. getD ready k 0) READY at (n + i) ≡ entries (λ k. getD ready₀ k 0) READY at n ++ entries (queueSlot own) queueSlots 0 i)
 
 abbrev μ-loop : tie.MeasureT-loop
@@ -27,9 +30,10 @@ slice-read-count : tie.Need-slice-read-count Inv-loop μ-loop
 slice-read-count c = search needs
 
 loop-holds : tie.Need-loop-holds Inv-loop μ-loop
+unfolding drained
 loop-holds c =
     let s = c .before in
-    (search needs, refl, refl, rw (entries-none (queueSlot (s .args .own .now)) queueSlots 0, append-nil, add-zero))
+    (search needs, refl, refl, refl, rw (entries-none (queueSlot (s .args .own .now)) queueSlots 0, append-nil, add-zero))
 
 add-to : tie.Need-add-to Inv-loop μ-loop
 add-to c = search needs
@@ -59,13 +63,14 @@ loop-less : tie.Need-loop-less Inv-loop μ-loop
 loop-less c = search needs
 
 loop-again : tie.Need-loop-again Inv-loop μ-loop
+unfolding drained
 loop-again c =
     let l = c .before .before .loop in
     let s = c .before .before .before .before in
     let turn =
     drain-turn (s .args .own .now) (l .ready) (s .args .ready .now) (s .args .at) (s .args .n) (l .i)
-    (omega (arith, s .pre)) (omega (arith, s .pre)) (omega (arith, s .pre)) (l .inv .3) in
-    (omega arith, l .inv .1, simp length-set (l .inv .2), turn)
+    (omega (arith, s .pre)) (omega (arith, s .pre)) (omega (arith, s .pre)) (l .inv .4) in
+    (omega arith, l .inv .1, simp length-set (l .inv .2), rw (add-one (l .i), l .inv .3), turn)
 
 slice-write-own : tie.Need-slice-write-own Inv-loop μ-loop
 slice-write-own c = search needs
@@ -83,8 +88,10 @@ returns : tie.Need-returns Inv-loop μ-loop
 returns c =
     let l = c .before .loop in
     let s = c .before .before .before in
-    let all : l .i ≡ getD (s .args .own .now) queuedAt 0 = omega (arith, l .inv) in
-    (λ p queue h. stationed-drained h, λ p queue tasks h e. let q = h .queue in cc)
+    let all : l .i ≡ getD (s .args .own .now) queuedAt 0 = omega (arith, l .inv) in (
+      (omega (arith, l .inv .1), refl, rw all at (l .inv .3)),
+      (λ p queue h. stationed-drained h, λ p queue tasks h e. let q = h .queue in cc),
+    )
 
 pub drain-spec : {M : Type 1} → statement M
 drain-spec =

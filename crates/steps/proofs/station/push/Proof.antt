@@ -1,4 +1,5 @@
 -- `station/push` meets its contract.
+use mathlib.Core.Path.{refl}
 use Rattle.steps.proofs.Stations.{stationed-push}
 use borrow.Author.Needs.{needs}
 use Rattle.steps.proofs.station.push.Statement.{statement}
@@ -26,7 +27,7 @@ same-length : tie.Need-same-length
 same-length c = search needs
 
 returns : tie.Need-returns
-returns c p queue h = stationed-push h (c .before .args .task) (c .before .pre .1)
+returns c = (refl, λ p queue h. stationed-push h (c .before .args .task) (c .before .pre .1))
 
 pub push-spec : {M : Type 1} → statement M
 push-spec =

@@ -2,8 +2,8 @@
 -- Assumes nothing.
 use native.Mathlib.Omega.{arith}
 use mathlib.Core.Path.{_∙_}
+use Rattle.memory.specs.SearchLaws.{last-low}
 use Rattle.tables.specs.Laid.{atAddress}
-use Rattle.tables.proofs.Searches.{last-low}
 use Rattle.tables.proofs.Chains.{laid-access}
 use borrow.Author.Needs.{needs}
 use Rattle.tables.proofs.access.chain_access.Statement.{statement}

@@ -2,7 +2,7 @@
 -- Assumes nothing.
 use borrow.Author.Needs.{needs}
 use native.Mathlib.Omega.{arith}
-use Prim.Native.Nat.{suc, _+_, _-_, _≤_}
+use Prim.Native.Nat.{ℕ, suc, _+_, _-_, _≤_}
 use mathlib.Core.Path.{_≡_, sym, _∙_}
 use mathlib.Core.List.{List}
 use lib.ListN.{length}
@@ -17,7 +17,8 @@ use Rattle.tables.proofs.access.lay_accesses.Tie as tie
 abbrev Inv-loop : tie.InvT-loop
 Inv-loop accesses₀ plan n task at total k₀ accesses k =
     (k ≤ n) × (length accesses ≡ layout.accessRows)
-    × ((ts : List Task) → Total ts ≡ total → AreAccesses ts task at n plan → Laid ts at accesses₀ → Laid ts (at + k) accesses)
+    × ((ts : List Task) (start : List ℕ) → Total ts ≡ total → AreAccesses ts task at n plan → Laid ts at start accesses₀
+    → Laid ts (at + k) start accesses)
 
 abbrev μ-loop : tie.MeasureT-loop
 μ-loop accesses₀ plan n task at total k₀ accesses k = n - k
@@ -25,7 +26,7 @@ abbrev μ-loop : tie.MeasureT-loop
 loop-holds : tie.Need-loop-holds Inv-loop μ-loop
 loop-holds c =
     let s = c .before .before in
-    (omega arith, s .pre .0, λ ts e h l. let z : s .args .at + 0 ≡ s .args .at = omega arith in rw z l)
+    (omega arith, s .pre .0, λ ts start e h l. let z : s .args .at + 0 ≡ s .args .at = omega arith in rw z l)
 
 touch-at-requires : tie.Need-touch-at-requires Inv-loop μ-loop
 touch-at-requires c κs = omega arith
@@ -56,10 +57,10 @@ loop-again c =
     let more : a .at + (x .k + 1) ≡ suc (a .at + x .k) = omega arith in (
       omega arith,
       chained .kept .0 ∙ x .inv .1,
-      λ ts e h l.
+      λ ts start e h l.
           let access =
           one-access ts (a .task) (a .at) (a .n) (x .k) (a .plan .now) (touch .result) (touch .ensures) h (turn .loop-test .taken) in
-          rw more (chained .ensures ts e (rw (reads .ensures) access) (x .inv .2 ts e h l)),
+          rw more (chained .ensures ts start e (rw (reads .ensures) access) (x .inv .2 ts start e h l)),
     )
 
 same-length : tie.Need-same-length Inv-loop μ-loop
@@ -69,7 +70,7 @@ returns : tie.Need-returns Inv-loop μ-loop
 returns c =
     let x = c .before .loop in
     let all : x .k ≡ c .before .before .before .before .args .n = omega arith in
-    λ ts e h l. rw all at (x .inv .2 ts e h l)
+    λ ts start e h l. rw all at (x .inv .2 ts start e h l)
 
 pub lay-accesses-spec : {M : Type 1} → statement M
 lay-accesses-spec =

@@ -15,7 +15,7 @@ use Rattle.tables.proofs.access.lay_plan_accesses.Tie as tie
 abbrev Inv-loop : tie.InvT-loop
 Inv-loop plan count accesses₀ total at₀ i₀ accesses at i =
     (i ≤ count) × (at ≤ layout.mostTaskAccesses * i) × (length accesses ≡ layout.accessRows)
-    × OfPlan plan count (λ text p. total ≡ Total (p .tasks) → AccessesTo p i at accesses)
+    × OfPlan plan count (λ text p. total ≡ Total (p .tasks) → AccessesTo p accesses₀ i at accesses)
 
 abbrev μ-loop : tie.MeasureT-loop
 μ-loop plan count accesses₀ total at₀ i₀ accesses at i = count - i
@@ -72,8 +72,9 @@ loop-again c =
       omega (arith, x .inv .1, few),
       laid .kept .0 ∙ x .inv .2,
       λ text p e size has q.
-          accesses-laid text p e (s .args .count) size (s .args .plan .now) has (x .i) (x .at) (s .args .total) (row .result) (x .accesses)
-          (laid .last .0) (turn .loop-test .taken) (row .ensures) q (laid .ensures) (x .inv .3 text p e size has q),
+          accesses-laid text p e (s .args .count) size (s .args .plan .now) has (s .args .accesses .now) (x .i) (x .at) (s .args .total)
+          (row .result) (x .accesses) (laid .last .0) (turn .loop-test .taken) (row .ensures) q (laid .ensures)
+          (x .inv .3 text p e size has q),
     )
 
 same-length : tie.Need-same-length Inv-loop μ-loop
@@ -84,7 +85,8 @@ returns c =
     let x = c .before .loop in
     let a = c .before .before .before .before .args in
     λ text p e size has q.
-    accesses-end text p e (a .count) size (a .plan .now) has (x .i) (x .at) (x .accesses) (omega arith) (x .inv .3 text p e size has q)
+    accesses-end text p e (a .count) size (a .plan .now) has (a .accesses .now) (x .i) (x .at) (a .total) (x .accesses) (omega arith) q
+    (x .inv .3 text p e size has q)
 
 pub lay-plan-accesses-spec : {M : Type 1} → statement M
 lay-plan-accesses-spec =

@@ -6,8 +6,8 @@ use Prim.Native.Nat.{_≤_}
 use mathlib.Core.Path.{_≡_, refl, sym, _∙_}
 use borrow.Author.Tests.{eq-eqb, ne-eqb}
 use Rattle.runs.specs.Searches.{lastBelow}
+use Rattle.memory.specs.SearchLaws.{search-found, search-on, search-none}
 use Rattle.tables.specs.Laid.{atAddress}
-use Rattle.tables.proofs.Searches.{search-found, search-on, search-none}
 use Rattle.tables.proofs.access.previous.Statement.{statement}
 use Rattle.tables.proofs.access.previous.Tie as tie
 

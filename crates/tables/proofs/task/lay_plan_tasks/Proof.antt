@@ -14,7 +14,7 @@ use Rattle.tables.proofs.task.lay_plan_tasks.Tie as tie
 abbrev Inv-loop : tie.InvT-loop
 Inv-loop plan count tasks₀ labels₀ total₀ i₀ tasks labels total i =
     (i ≤ count) × (total ≤ layout.mostTaskAccesses * i) × (length tasks ≡ layout.taskRows) × (length labels ≡ layout.labelRows)
-    × OfPlan plan count (λ text p. TasksTo text p i total tasks labels)
+    × OfPlan plan count (λ text p. TasksTo p plan tasks₀ labels₀ i total tasks labels)
 
 abbrev μ-loop : tie.MeasureT-loop
 μ-loop plan count tasks₀ labels₀ total₀ i₀ tasks labels total i = count - i
@@ -26,7 +26,7 @@ loop-holds c =
       omega arith,
       s .pre .0 .1,
       s .pre .0 .2,
-      λ text p e size has. tasks-begin text p (s .args .tasks .now) (s .args .labels .now),
+      λ text p e size has. tasks-begin p (s .args .plan .now) (s .args .tasks .now) (s .args .labels .now),
     )
 
 row-at-requires : tie.Need-row-at-requires Inv-loop μ-loop
@@ -84,9 +84,9 @@ loop-again c =
       task .kept .0 ∙ x .inv .2,
       label .kept .0 ∙ x .inv .3,
       λ text p e size has.
-          task-laid text p e (s .args .count) size (s .args .plan .now) has (x .i) (x .total) (row .result) (x .tasks) (x .labels)
-          (task .last .0) (label .last .0) taken (row .ensures) (omega (arith, x .inv .2, low)) (omega (arith, x .inv .3, low))
-          (task .ensures) (label .ensures) (x .inv .4 text p e size has),
+          task-laid text p e (s .args .count) size (s .args .plan .now) has (s .args .tasks .now) (s .args .labels .now) (x .i)
+          (x .total) (row .result) (x .tasks) (x .labels) (task .last .0) (label .last .0) taken (row .ensures)
+          (omega (arith, x .inv .2, low)) (omega (arith, x .inv .3, low)) (task .ensures) (label .ensures) (x .inv .4 text p e size has),
     )
 
 same-length : tie.Need-same-length Inv-loop μ-loop
@@ -100,8 +100,8 @@ returns c =
     let x = c .before .loop in
     let a = c .before .before .before .before .before .args in
     λ text p e size has.
-    tasks-end text p e (a .count) size (a .plan .now) has (x .i) (x .total) (x .tasks) (x .labels) (omega arith)
-    (x .inv .4 text p e size has)
+    tasks-end text p e (a .count) size (a .plan .now) has (a .tasks .now) (a .labels .now) (x .i) (x .total) (x .tasks) (x .labels)
+    (omega arith) (x .inv .4 text p e size has)
 
 pub lay-plan-tasks-spec : {M : Type 1} → statement M
 lay-plan-tasks-spec =

@@ -1,11 +1,11 @@
--- The search for the last number below another that passes a test. Assumes nothing.
+-- A search for the last number below another that passes a test: its answer is that number and 1 more, or 0.
 use Prim.Native.Nat.{ℕ, zero, suc, _-_, _≤_, _<_}
 use mathlib.Core.Path.{_≡_, sym, ap, _∙_}
 use mathlib.Core.Bool.{Bool, true, false}
 use mathlib.Core.Option.{Option, some}
 use native.Mathlib.Omega.{arith}
 use Rattle.runs.specs.Searches.{lastBelow, last-zero, last-found, last-passed}
 use Rattle.memory.specs.Codes.{optionCode}
 
 module _ (test : ℕ → Bool) where
   pub last-low : (n : ℕ) → optionCode (lastBelow test n) ≤ n
