@@ -106,7 +106,8 @@ struct salfunye_lock_answer {
     uint64_t value;
 };
 
-/* Starts a lock: head `slots`, tail one more, wait slots `slots`, all else 0. */
+/* Starts a lock: head `slots`, tail one more, wait slots `slots`, all else 0, in arrays of any length: the other functions
+ * refuse those that are too short. */
 struct salfunye_lock_ends salfunye_lock_start(uint64_t slots,
                                               uint64_t *wait, size_t wait_length,
                                               uint64_t *registrations, size_t registrations_length,
@@ -135,7 +136,7 @@ struct salfunye_lock_ends salfunye_lock_hand_over(uint64_t slots, uint64_t head,
 struct salfunye_lock_answer salfunye_lock_front_waiter(uint64_t slots, uint64_t head, uint64_t tail,
                                                        const uint64_t *registrations, size_t registrations_length);
 
-/* Whether nobody holds or awaits the lock: tail = head + 1. */
+/* Whether tail = head + 1: nobody owns the lock, and whoever still waits has its task in its cell. */
 bool salfunye_lock_is_free(uint64_t head, uint64_t tail);
 
 /* Puts a task, and the tail as its ticket, into a worker's result cell. */

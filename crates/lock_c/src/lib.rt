@@ -1,5 +1,5 @@
 // The lock for callers in C and Rust: numbers and slices in, numbers out. Each function takes any arguments. It refuses exactly those
-// that the lock's function of that name does not take, and changes nothing then; on all others its contract is that function's.
+// that the lock's function of that name does not take, and changes nothing then; on all others it says what that function answers and writes.
 // `Answered F A R` says: where the arguments are such that F, A; where they are not, R.
 ghost use mathlib.Core.Path.{_≡_};
 ghost use mathlib.Core.Bool.{true, false};

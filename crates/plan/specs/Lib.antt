@@ -3,4 +3,5 @@ pub mod Line
 pub mod Reading
 pub mod Orders
 pub mod Accepted
+pub mod Refused
 pub mod PassFields
