@@ -6,6 +6,7 @@ use mathlib.Core.List.{List, [], _∷_, _++_, map}
 use mathlib.Core.Option.{Option, none, some}
 use lib.ListN.{length, replicate}
 use lib.Dec.{eqb}
+use Rattle.runs.specs.Sums.{sum}
 use Rattle.runs.specs.Counts.{is}
 use Rattle.runs.specs.Traces as Traces
 use Rattle.plan.specs.Plan.{Access, Task}
@@ -17,7 +18,7 @@ use Rattle.machine.specs.State.{Setup, forServing, Place, idle, trying, 
 use Rattle.machine.specs.Event.{Event}
 use Rattle.machine.specs.Step.{after}
 use Rattle.machine.specs.Trace.{Happening, trace, isReceipt, isEnding, isHandOver}
-use Rattle.machine.specs.Whereabouts.{owner}
+use Rattle.machine.specs.Whereabouts.{owner, boxed, boxes}
 use Rattle.machine.specs.Computing.{computing}
 
 -- a task of no cost
@@ -183,6 +184,12 @@ standings =
 pub stood : Stands standings
 unfolding computing owner
 stood = (refl, refl, refl, refl, (refl, refl, refl, refl, (refl, refl, refl, refl, (refl, refl, refl, refl, (refl, refl, refl, refl, tt)))))
+
+-- how often each of the two tasks is in a cell: task 0 when it is held, and no more when it was received and the worker waits again
+pub in-cells : (map (boxes two (after two untilFilled)) (numbersFrom 0 2) ≡ 1 ∷ 0 ∷ [])
+    × (map (boxes two (after two (untilFilled ++ 0 ∷ 1 ∷ 1 ∷ 1 ∷ 1 ∷ []))) (numbersFrom 0 2) ≡ 0 ∷ 0 ∷ [])
+unfolding computing sum boxed is
+in-cells = (refl, refl)
 
 -- ---- who does what
 

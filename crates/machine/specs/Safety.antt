@@ -14,36 +14,46 @@ use Prim.Native.Nat.{ℕ, suc, _+_, _-_, _≤_, _<_}
 use native.Mathlib.Omega.{arith}
 use mathlib.Core.Path.{_≡_, refl, sym, ap, _∙_}
 use mathlib.Core.Logic.{_⊎_, inl, inr, ⊎-elim}
-use mathlib.Core.Bool.{true, false}
+use mathlib.Core.Bool.{Bool, true, false}
 use mathlib.Core.List.{List, [], _∷_, _++_}
 use mathlib.Core.Option.{Option, none, some}
 use lib.ListN.{length, getElem?}
-use Rattle.runs.specs.Update.{order}
+use Rattle.runs.specs.Update.{order, upd}
 use Rattle.runs.specs.Picks.{Picks, run-append}
 use Rattle.lock.specs.History.{Owner}
 use Rattle.lock.specs.Promise as Lock
 use Rattle.tasks.specs.Accesses.{taskAt, conflict}
 use Rattle.tasks.specs.Tasks.{ready, held, running, over, Creation, opening, Created, isReady, isHeld, isRunning, pastWaiting, isReceived}
-use Rattle.tasks.specs.Tasks.{isEnded}
+use Rattle.tasks.specs.Tasks.{isEnded, opened, untilClosed, toAdd, unsatisfied}
 use Rattle.tasks.specs.History as H
 use Rattle.tasks.specs.Playing as P
 use Rattle.tasks.specs.Playing.{hasNotice}
 use Rattle.tasks.specs.Promise as Promise
 use Rattle.machine.specs.State.{Setup, State, start}
 use Rattle.machine.specs.Event.{Event, event}
-use Rattle.machine.specs.Step.{taskOp, finished, pick, after}
+use Rattle.machine.specs.Step.{taskOp, step, finished, pick, after}
 use Rattle.machine.specs.View.{Does, does}
 use Rattle.machine.specs.Trace.{Happening, trace, tally, isReceipt, isEnding}
-use Rattle.machine.specs.Whereabouts.{lockStand, places}
-use Rattle.machine.specs.Safety.Traces.{run-finished, run-inv, picks-taken, taken-within}
+use Rattle.machine.specs.Whereabouts.{lockStand, stored, boxes, hands, places}
+use Rattle.machine.specs.Safety.Traces.{pick-finished, pick-open, run-finished, run-inv, picks-taken, taken-within}
 use Rattle.machine.specs.Safety.Histories as R
 use Rattle.machine.specs.Safety.Bounds.{Roomy, roomy-start, roomy-step, ready-length, Small, small-start, small-step}
 use Rattle.machine.specs.Safety.Invariant.{Playable, Inv, may-do, inv-after}
 
-all-places : (c : Setup) (s : State) → Inv c s → (i : ℕ)
-    → places c s i ≡ isReady (s .tasks .status i) + isHeld (s .tasks .status i) + isRunning (s .tasks .status i)
-all-places c s v i =
-    omega (arith, Promise.to-add-or-given (v .tasked) i, v .device .stored i, v .device .boxes i, Promise.in-hands (v .tasked) i)
+-- whoever brings a count to 0 has the task to add: by a step, and by a pick
+step-to-add : (c : Setup) (s : State) (w i : ℕ) → 0 < s .tasks .count i → (step c s w) .tasks .count i ≡ 0
+    → (step c s w) .tasks .adds ≡ upd (s .tasks .adds) w (s .tasks .adds w ++ i ∷ [])
+unfolding step
+step-to-add c s w i = P.has-to-add-by (c .tasks) (suc (s .picks)) (s .tasks) w (taskOp (event c s w)) i
+
+pick-to-add : (c : Setup) (s : State) (w i : ℕ) → 0 < s .tasks .count i → (pick c s w) .tasks .count i ≡ 0
+    → (pick c s w) .tasks .adds ≡ upd (s .tasks .adds) w (s .tasks .adds w ++ i ∷ [])
+pick-to-add c s w i l = go (finished c s) refl
+  where
+    go : (b : Bool) → finished c s ≡ b → (pick c s w) .tasks .count i ≡ 0
+        → (pick c s w) .tasks .adds ≡ upd (s .tasks .adds) w (s .tasks .adds w ++ i ∷ [])
+    go true e = rw (pick-finished c s w e) (λ z. absurd (omega arith))
+    go false e = rw (pick-open c s w e) (step-to-add c s w i l)
 
 -- at a receipt of task j it is ready or held
 receipt-status : (c : Setup) (s : State) → Inv c s → (w : ℕ) → w < c .workers → {e : Event} → Does c s w e → (j : ℕ) → 0 < isReceipt j e
@@ -68,11 +78,25 @@ module _ (c : Setup) (playable : Playable c) (ws : List ℕ) (p : Picks (c .work
   unfolding after
   rest-untaken e vs = run-append (pick c) (start c) ws vs ∙ run-finished c (after c ws) e vs
 
+  -- a ready task stands once among the tasks to add, the queues and the ready list, and any other not at all
+  pub ready-stands : (i : ℕ)
+      → toAdd (c .workers) ((after c ws) .tasks .adds) i + stored c (after c ws) i ≡ isReady ((after c ws) .tasks .status i)
+  ready-stands i =
+      omega (arith, Promise.to-add-or-given (inv-after c playable ws p .tasked) i, inv-after c playable ws p .device .stored i)
+
+  -- a held task is in exactly one cell, whose worker waits with the cell's ticket, and any other is in none
+  pub held-in-cell : (i : ℕ) → boxes c (after c ws) i ≡ isHeld ((after c ws) .tasks .status i)
+  held-in-cell = inv-after c playable ws p .device .boxes
+
+  -- a task that is run is in exactly one worker's hands, and any other in nobody's
+  pub run-in-hand : (i : ℕ) → hands c (after c ws) i ≡ isRunning ((after c ws) .tasks .status i)
+  run-in-hand = Promise.in-hands (inv-after c playable ws p .tasked)
+
   -- no task is lost: one that is ready, held or run stands in exactly one place
   pub none-lost : (i : ℕ)
       → ((after c ws) .tasks .status i ≡ ready) ⊎ ((after c ws) .tasks .status i ≡ held) ⊎ ((after c ws) .tasks .status i ≡ running)
       → places c (after c ws) i ≡ 1
-  none-lost i h = all-places c (after c ws) (inv-after c playable ws p) i ∙ go h
+  none-lost i h = omega (arith, ready-stands i, held-in-cell i, run-in-hand i, go h)
     where
       go : ((after c ws) .tasks .status i ≡ ready) ⊎ ((after c ws) .tasks .status i ≡ held) ⊎ ((after c ws) .tasks .status i ≡ running)
           → isReady ((after c ws) .tasks .status i) + isHeld ((after c ws) .tasks .status i) + isRunning ((after c ws) .tasks .status i) ≡ 1
@@ -108,6 +132,17 @@ module _ (c : Setup) (playable : Playable c) (ws : List ℕ) (p : Picks (c .work
         → (tally (isReceipt i) (trace c (start c) ws) ≡ 1) × (tally (isEnding i) (trace c (start c) ws) ≡ 1)
     run-by-one o = (R.receipts c playable ws p i ∙ ap isReceived o, R.endings c playable ws p i ∙ ap isEnded o)
 
+  -- a task that is opened counts its unsatisfied accesses, plus one until it is closed
+  pub counts-unsatisfied : (i : ℕ) → i < opened ((after c ws) .tasks .creation)
+      → (after c ws) .tasks .count i
+      ≡ unsatisfied (c .tasks) ((after c ws) .tasks .flags) i + untilClosed ((after c ws) .tasks .creation) i
+  counts-unsatisfied = Promise.counts-unsatisfied (inv-after c playable ws p .tasked)
+
+  -- whoever brings the count to 0 has the task to add, after what it had to add before; nobody else's tasks to add change
+  pub has-to-add : (w i : ℕ) → 0 < (after c ws) .tasks .count i → (after c (ws ++ w ∷ [])) .tasks .count i ≡ 0
+      → (after c (ws ++ w ∷ [])) .tasks .adds ≡ upd ((after c ws) .tasks .adds) w ((after c ws) .tasks .adds w ++ i ∷ [])
+  has-to-add w i = rw (one-more w) (pick-to-add c (after c ws) w i)
+
   -- a task that is ready, held, run or over has every earlier task that conflicts with it over
   pub in-order : (i j : ℕ) → i < j → j < length (c .tasks) → conflict (taskAt (c .tasks) i) (taskAt (c .tasks) j) ≡ true
       → pastWaiting ((after c ws) .tasks .status j) ≡ 1 → (after c ws) .tasks .status i ≡ over
@@ -139,8 +174,8 @@ module _ (c : Setup) (playable : Playable c) (ws : List ℕ) (p : Picks (c .work
   unfolding after start
   picks-counted = (omega (arith, picks-taken c ws p (start c)), taken-within c ws (start c))
 
-  -- what is noted of a task is of a worker, and of picks that were taken
-  pub noted : (i : ℕ) → ((after c ws) .tasks .runner i ≤ c .workers) × ((after c ws) .tasks .receipt i ≤ (after c ws) .picks)
+  -- what is noted of a task is a worker's number, and no later than the last pick taken
+  pub noted : (i : ℕ) → ((after c ws) .tasks .runner i < c .workers) × ((after c ws) .tasks .receipt i ≤ (after c ws) .picks)
       × ((after c ws) .tasks .ending i ≤ (after c ws) .picks)
   noted i = rw (picks-counted .0) (R.noted c playable ws p i)
 

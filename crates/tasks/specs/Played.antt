@@ -229,8 +229,9 @@ unfolding upd lastBelow firstFrom accesses taskOf first reader sameAddress prev 
     linkMessage passed doneMessages duty creating step played statusesOf flagsOf numbersFrom finished everyBelow
 plays-later = (refl, refl, refl, refl, (refl, refl, refl, refl, (refl, refl, refl, refl, (refl, refl, refl, refl, tt))))
 
--- who received a task is noted
-pub noted : map (played readTwice untilNotice .tasks .runner) (numbersFrom 0 2) ≡ 0 ∷ 1 ∷ []
+-- who received a task is noted; and who brings a count to 0 has the task to add: worker 1, which ends the writer and delivers what follows
+pub by-whom : (map (played readTwice untilNotice .tasks .runner) (numbersFrom 0 2) ≡ 0 ∷ 1 ∷ [])
+    × (map (played writeThenRead (replicate 9 0 ++ replicate 4 1) .tasks .adds) (numbersFrom 0 2) ≡ [] ∷ (1 ∷ []) ∷ [])
 unfolding upd lastBelow firstFrom accesses taskOf first reader sameAddress prev next passesRead passesWrite satisfied lowered after T.start
     linkMessage passed doneMessages duty creating step played numbersFrom
-noted = refl
+by-whom = (refl, refl)

@@ -94,6 +94,12 @@ pub stands-others : (ts : List Task) (st : ℕ → Stand) (w : ℕ) (o : Option 
 stands-others ts st w none u k = refl
 stands-others ts st w (some op) u k = upd-other st w _ u k
 
+-- whoever brings a count to 0 has the task to add
+pub has-to-add-by : (ts : List Task) (n : ℕ) (t : Tasks) (w : ℕ) (o : Option H.Op) (i : ℕ) → 0 < t .count i
+    → tasksAfter ts n t w o .count i ≡ 0 → tasksAfter ts n t w o .adds ≡ upd (t .adds) w (t .adds w ++ i ∷ [])
+has-to-add-by ts n t w none i l z = absurd (omega arith)
+has-to-add-by ts n t w (some op) i l z = Promise.has-to-add ts n t w op i l z
+
 -- ---- finished
 
 abbrev pub hasNotice : Stand → Bool
@@ -240,9 +246,9 @@ module _ {E : Type 0} (taskOp : E → Option H.Op) where
         let (a, b) = Promise.ending-by d history i (record { by = h .by; at = suc (k + 0); op = op }) (at-move 0 hs k h e op q) z in
         (a, omega arith)
 
-    -- what is noted is of a worker, and of picks that were taken
-    pub noted : (t .runner i ≤ W) × (t .receipt i ≤ length hs) × (t .ending i ≤ length hs)
-    noted = Promise.noted-within d history i (length hs) (λ m k. omega (arith, late-moves 0 hs m k))
+    -- where there is a worker at all: what is noted is a worker's number, and no later than the last pick
+    pub noted : 0 < W → (t .runner i < W) × (t .receipt i ≤ length hs) × (t .ending i ≤ length hs)
+    noted any = Promise.noted-within d history i any (length hs) (λ m k. omega (arith, late-moves 0 hs m k))
 
   -- ---- every list of picks of a device is such a history
 

@@ -38,7 +38,7 @@ use Rattle.tasks.specs.Inside.Brought as came
 -- the words of the laws
 pub use Rattle.tasks.specs.Accesses.{total, addr, totalCost, Distinct}
 pub use Rattle.tasks.specs.Flags.{Once, NoneTwice, RightsOnly}
-pub use Rattle.tasks.specs.Tasks.{Made, Created, Sound, Released}
+pub use Rattle.tasks.specs.Tasks.{untilClosed, Made, Created, Sound, unsatisfied, Released}
 
 -- what holds of the tasks of ts, and of where W workers stand with them, throughout every history
 pub record Kept (W : ℕ) (ts : List Task) (t : Tasks) (st : ℕ → Stand) : Type 0 where
@@ -157,6 +157,10 @@ module _ {W : ℕ} {ts : List Task} {t : Tasks} {st : ℕ → Stand} (v : Kept W
   pub waits-exactly : (i : ℕ) → (t .status i ≡ waiting) ↔ (0 < t .count i)
   waits-exactly i = (v .inv .counts .uncounted i, keeps.counts-waits (v .inv) i)
 
+  -- a task that is opened counts its unsatisfied accesses, plus one until it is closed
+  pub counts-unsatisfied : (i : ℕ) → i < opened (t .creation) → t .count i ≡ unsatisfied ts (t .flags) i + untilClosed (t .creation) i
+  counts-unsatisfied = v .inv .counting
+
   -- one that is ready, held, run or over is closed, and its accesses are all linked and satisfied
   pub released : (i : ℕ) → pastWaiting (t .status i) ≡ 1 → Released ts t i
   released = counting.released W ts (v .inv .links) t st (v .inv .counts) (v .inv .messages) (v .inv .counting)
@@ -269,6 +273,11 @@ module _ (ts : List Task) (time : ℕ) (t : Tasks) (w : ℕ) where
       → ((after ts time t w (gives j js)) .mail w ≡ t .mail w) × ((after ts time t w (gives j js)) .adds w ≡ js)
   own-given = lists.own-given ts time t w
 
+  -- whoever brings a count to 0 has the task to add, after what it had to add before; nobody else's tasks to add change
+  pub has-to-add : (op : Op) (i : ℕ) → 0 < t .count i → (after ts time t w op) .count i ≡ 0
+      → (after ts time t w op) .adds ≡ upd (t .adds) w (t .adds w ++ i ∷ [])
+  has-to-add = lists.has-to-add ts time t w
+
 -- an ending posts as many messages as the task has accesses
 pub done-length : (ts : List Task) (i : ℕ) → length (doneMessages ts i) ≡ length (taskAt ts i .accesses)
 done-length = lists.done-length
@@ -344,9 +353,10 @@ module _ {W : ℕ} {ts : List Task} (d : Distinct ts) {ms : List Move} {t : Task
     pub ending-by : (m : Move) → List·Memᴰ m ms → 0 < isEnding i (m .op) → (t .runner i ≡ m .by) × (t .ending i ≡ m .at)
     ending-by = histories.ending-by (links.links ts d) i history
 
-    -- what is noted is of a worker, and no later than the latest operation
-    pub noted-within : (n : ℕ) → ((m : Move) → List·Memᴰ m ms → m .at ≤ n) → (t .runner i ≤ W) × (t .receipt i ≤ n) × (t .ending i ≤ n)
-    noted-within n late = histories.noted-within (links.links ts d) i n history late
+    -- where there is a worker at all: what is noted is a worker's number, and no later than the latest operation
+    pub noted-within : 0 < W → (n : ℕ) → ((m : Move) → List·Memᴰ m ms → m .at ≤ n)
+        → (t .runner i < W) × (t .receipt i ≤ n) × (t .ending i ≤ n)
+    noted-within any n late = histories.noted-within (links.links ts d) i any n history late
 
 -- ---- statuses
 

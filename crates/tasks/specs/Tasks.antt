@@ -11,7 +11,7 @@ use Rattle.runs.specs.Update.{upd}
 use Rattle.runs.specs.Sums.{sum}
 use Rattle.runs.specs.Counts.{one, is, count}
 use Rattle.plan.specs.Plan.{Task}
-use Rattle.tasks.specs.Accesses.{total, first, reader}
+use Rattle.tasks.specs.Accesses.{total, taskAt, first, reader}
 use Rattle.tasks.specs.Flags.{Flags, noFlag, satisfied, RightsOnly}
 
 -- flags under way to an access; a pass message has the access that sends it
@@ -235,6 +235,10 @@ abbrev pub linked : List Task → Creation → ℕ
 linked ts (opening i) = first ts i
 linked ts (linking i a) = a
 
+-- 1 until task i is closed, then 0
+abbrev pub untilClosed : Creation → ℕ → ℕ
+untilClosed x i = one (leb (closed x) i)
+
 -- it is at a task of the plan and at one of its accesses, or at the end of either
 abbrev pub Made : List Task → Creation → Type 0
 Made ts (opening i) = i ≤ length ts
@@ -269,6 +273,11 @@ pub record Sound (ts : List Task) (m : Message) : Type 0 where
   pub brings : 1 ≤ m .flags .read + m .flags .write + m .flags .next + m .flags .done
   pub unsent : (m .flags .sentRead ≡ 0) × (m .flags .sentWrite ≡ 0)
   pub from : (b : ℕ) → m .sender ≡ some b → (b < total ts) × RightsOnly (m .flags)
+
+-- how many accesses of task i are not satisfied
+abbrev pub unsatisfied : List Task → (ℕ → Flags) → ℕ → ℕ
+unsatisfied ts flags i =
+    sum (length (taskAt ts i .accesses)) (λ k. let a = first ts i + k in 1 - satisfied (reader ts a) (flags a))
 
 -- a task is closed, and its accesses are all linked and satisfied
 pub record Released (ts : List Task) (t : Tasks) (i : ℕ) : Type 0 where

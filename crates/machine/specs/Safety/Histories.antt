@@ -100,6 +100,6 @@ module _ (c : Setup) (playable : Playable c) where
           → ((after c ws) .tasks .runner i ≡ h .by) × ((after c ws) .tasks .ending i ≡ suc k)
       ending-by = P.ending-by taskOp (playable .distinct) (trace c (start c) ws) task-history i
 
-      pub noted : ((after c ws) .tasks .runner i ≤ c .workers) × ((after c ws) .tasks .receipt i ≤ length (trace c (start c) ws))
+      pub noted : ((after c ws) .tasks .runner i < c .workers) × ((after c ws) .tasks .receipt i ≤ length (trace c (start c) ws))
           × ((after c ws) .tasks .ending i ≤ length (trace c (start c) ws))
-      noted = P.noted taskOp (playable .distinct) (trace c (start c) ws) task-history i
+      noted = P.noted taskOp (playable .distinct) (trace c (start c) ws) task-history i (playable .workers)

@@ -2,6 +2,7 @@
 use Prim.Native.Nat.{ℕ, suc, _+_, _-_, _≤_, _<_, min}
 use mathlib.Core.Path.{_≡_, refl, sym, ap, _∙_}
 use mathlib.Core.Logic.{_⊎_, inl, inr, _≢_}
+use mathlib.Core.Bool.{Bool, true, false}
 use mathlib.Core.List.{List, [], _∷_, _++_}
 use native.Mathlib.Omega.{arith}
 use lib.ListN.{length}
@@ -11,10 +12,11 @@ use Rattle.plan.specs.Plan.{Task}
 use Rattle.tasks.specs.Accesses.{taskOf, taskAt, first, reader, next, total}
 use Rattle.tasks.specs.Flags.{Flags, noFlag, sent, with, satisfied}
 use Rattle.tasks.specs.Tasks.{Message, Stand, Status, new, waiting, ready, Creation, opening, linking, Tasks, start, opened, closed}
-use Rattle.tasks.specs.Tasks.{linked, pastWaiting, given, stage, Released, isEnded, Made, Sound}
+use Rattle.tasks.specs.Tasks.{linked, untilClosed, unsatisfied, pastWaiting, given, stage, Released, isEnded, Made, Sound}
 use Rattle.tasks.specs.Inside.Statuses.{at-stage, passed-by, waiting-or-not}
-use Rattle.runs.specs.Counts.{one-le}
+use Rattle.runs.specs.Counts.{one, one-le}
 use lib.Dec.{leb}
+use borrow.Author.Tests.{leb-true, leb-false}
 use Rattle.tasks.specs.History.{Op, lowered, after, Can, can-mind, can-open, can-link, can-close, can-deliver, can-tell, can-give}
 use Rattle.tasks.specs.History.{can-hold, can-take, can-receive, can-work, can-end}
 use Rattle.tasks.specs.Inside.Lowered.{lowered-cases}
@@ -27,11 +29,8 @@ use Rattle.tasks.specs.Inside.Messages.{Messages, granted-once, granted-
 abbrev satisfies : List Task → (ℕ → Flags) → ℕ → ℕ
 satisfies ts flags a = satisfied (reader ts a) (flags a)
 
-abbrev pub unsatisfied : List Task → (ℕ → Flags) → ℕ → ℕ
-unsatisfied ts flags i = sum (length (taskAt ts i .accesses)) (λ k. 1 - satisfies ts flags (first ts i + k))
-
 abbrev CountingOf : List Task → (ℕ → Flags) → (ℕ → ℕ) → Creation → Type 0
-CountingOf ts flags count creation = (i : ℕ) → i < opened creation → count i ≡ min 1 (suc i - closed creation) + unsatisfied ts flags i
+CountingOf ts flags count creation = (i : ℕ) → i < opened creation → count i ≡ unsatisfied ts flags i + untilClosed creation i
 
 abbrev pub Counting : List Task → Tasks → Type 0
 Counting ts s = CountingOf ts (s .flags) (s .count) (s .creation)
@@ -58,6 +57,14 @@ pub given-ready : (W : ℕ) (t : Tasks) (i : ℕ) → given W t i ≡ 1 → t .s
 unfolding given
 given-ready W t i e = at-stage (t .status i) ready (omega arith)
 
+-- 1 until it is closed, as a number that omega reads
+pub until-closed : (x : Creation) (i : ℕ) → untilClosed x i ≡ min 1 (suc i - closed x)
+until-closed x i = go (leb (closed x) i) refl
+  where
+    go : (b : Bool) → leb (closed x) i ≡ b → one b ≡ min 1 (suc i - closed x)
+    go true e = omega (arith, leb-true (closed x) i e)
+    go false e = omega (arith, leb-false (closed x) i e)
+
 opened-within : (ts : List Task) (x : Creation) → Made ts x → opened x ≤ length ts
 opened-within ts (opening i) m = m
 opened-within ts (linking i a) m = m .0
@@ -82,7 +89,7 @@ module _ (W : ℕ) (ts : List Task) (laws : Links ts) where
       → CountingOf ts (upd flags b (with (flags b) (sent g))) count creation
   notify-counting flags count creation b g h j l =
       h j l
-      ∙ ap (λ x. min 1 (suc j - closed creation) + x)
+      ∙ ap (λ x. x + untilClosed creation j)
       (sum-same (length (taskAt ts j .accesses)) _ _ (λ k o. ap (λ x. 1 - x) (sym (stays (first ts j + k)))))
     where
       stays : (a : ℕ) → satisfies ts (upd flags b (with (flags b) (sent g))) a ≡ satisfies ts flags a
@@ -157,7 +164,7 @@ module _ (W : ℕ) (ts : List Task) (laws : Links ts) where
       deliver-counting j l = go (same j task)
         where
           go : (j ≡ task) ⊎ (j ≢ task)
-              → upd (s .count) task (s .count task - gain) j ≡ min 1 (suc j - closed (s .creation)) + unsatisfied ts flags′ j
+              → upd (s .count) task (s .count task - gain) j ≡ unsatisfied ts flags′ j + untilClosed (s .creation) j
           go (inl e) =
               let l′ : task < opened (s .creation) = omega arith in
               rw (e, upd-same) (omega (arith, falls, h task l′))
@@ -172,8 +179,9 @@ module _ (W : ℕ) (ts : List Task) (laws : Links ts) where
     open-counting : (j : ℕ) → s .creation ≡ opening j → j < length ts
         → CountingOf ts (s .flags) (upd (s .count) j (suc (length (taskAt ts j .accesses)))) (linking j (first ts j))
     open-counting j e l =
-        upd-all (λ k x. k < suc j → x ≡ min 1 (suc k - j) + unsatisfied ts (s .flags) k) (s .count) j (suc (length (taskAt ts j .accesses)))
-        (λ _. omega (arith, all-open)) (λ k ne o. rw e at (h k) (omega (arith, ap opened e)))
+        upd-all (λ k x. k < suc j → x ≡ unsatisfied ts (s .flags) k + untilClosed (opening j) k) (s .count) j
+        (suc (length (taskAt ts j .accesses))) (λ _. omega (arith, all-open, until-closed (opening j) j))
+        (λ k ne o. rw e at (h k) (omega (arith, ap opened e)))
       where
         top : first ts (suc j) ≤ total ts
         top = omega (arith, laws .first-mono (suc j) (length ts) l, laws .first-all (length ts) (omega arith))
@@ -185,8 +193,9 @@ module _ (W : ℕ) (ts : List Task) (laws : Links ts) where
     close-counting : (j a : ℕ) → s .creation ≡ linking j a → CountingOf ts (s .flags) (upd (s .count) j (s .count j - 1)) (opening (suc j))
     close-counting j a e =
         let h′ : CountingOf ts (s .flags) (s .count) (linking j a) = rw e at h in
-        upd-all (λ k x. k < suc j → x ≡ min 1 (suc k - suc j) + unsatisfied ts (s .flags) k) (s .count) j (s .count j - 1)
-        (λ l. omega (arith, h′ j l)) (λ k ne l. omega (arith, h′ k l))
+        upd-all (λ k x. k < suc j → x ≡ unsatisfied ts (s .flags) k + untilClosed (opening (suc j)) k) (s .count) j (s .count j - 1)
+        (λ l. omega (arith, h′ j l, until-closed (linking j a) j, until-closed (opening (suc j)) j))
+        (λ k ne l. omega (arith, h′ k l, until-closed (linking j a) k, until-closed (opening (suc j)) k))
 
     -- every operation keeps the counts
     pub counting-keep : (time : ℕ) {op : Op} → Can W ts s (st w) w op → Counting ts (after ts time s w op)
@@ -210,7 +219,7 @@ module _ (W : ℕ) (ts : List Task) (laws : Links ts) (s : Tasks) (st : ℕ → 
   -- a task with the count 0 is closed and has all its accesses satisfied
   counted-released : (j : ℕ) → j < opened (s .creation) → s .count j ≡ 0 → Released ts s j
   counted-released j l z =
-      let shut : j < closed (s .creation) = omega (arith, h j l) in
+      let shut : j < closed (s .creation) = omega (arith, h j l, until-closed (s .creation) j) in
       record {
         closed = shut;
         linked = closed-linked ts laws (s .creation) (i .made) j shut;

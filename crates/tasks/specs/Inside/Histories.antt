@@ -109,10 +109,11 @@ module _ {W : ℕ} {ts : List Task} where
           let n = noted (change (always r) w h time can i) in
           (n .receipt-stands (omega (arith, passed-by (stage (now .status i)) 4 5 (omega arith))) .0 ∙ a, n .ending-stands over ∙ b)
 
-      pub noted-within : (n : ℕ) → {ms : List Move} {t : Tasks} {st : ℕ → Stand} → History W ts ms t st
+      pub noted-within : 0 < W → (n : ℕ) → {ms : List Move} {t : Tasks} {st : ℕ → Stand} → History W ts ms t st
           → ((m : Move) → List·Memᴰ m ms → m .at ≤ n)
           → Within W n (storyOf t i)
       unfolding start
-      noted-within n still late = (omega arith, omega arith, omega arith)
-      noted-within n (then r w h time op can) late =
-          within h (late _ (List·Memᴰ·head refl)) (change (always r) w h time can i) (noted-within n r (λ m k. late m (List·Memᴰ·tail k)))
+      noted-within any n still late = (omega arith, omega arith, omega arith)
+      noted-within any n (then r w h time op can) late =
+          within h (late _ (List·Memᴰ·head refl)) (change (always r) w h time can i)
+          (noted-within any n r (λ m k. late m (List·Memᴰ·tail k)))

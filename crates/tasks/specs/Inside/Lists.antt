@@ -15,7 +15,7 @@ use Rattle.tasks.specs.History.{Op, minds, opens, links, closes, deliver
 use Rattle.tasks.specs.History.{can-mind, can-open, can-link, can-close, can-deliver, can-tell, can-give, can-hold, can-take}
 use Rattle.tasks.specs.History.{can-receive, can-work, can-end, plain, lowered, passed, doneMessages, delivered, newlySatisfied}
 use Rattle.tasks.specs.History.{after, quiet}
-use Rattle.tasks.specs.Inside.Lowered.{lowered-cases, lowered-mail, lowered-creation}
+use Rattle.tasks.specs.Inside.Lowered.{lowered-cases, lowered-to-add, lowered-mail, lowered-creation}
 use Rattle.tasks.specs.Inside.Underway.{passed-all}
 use Rattle.tasks.specs.Inside.Invariant.{Busy, Inv}
 
@@ -64,6 +64,24 @@ module _ (ts : List Task) (time : ℕ) (t : Tasks) (w : ℕ) where
       → ((after ts time t w (gives j js)) .mail w ≡ t .mail w) × ((after ts time t w (gives j js)) .adds w ≡ js)
   unfolding after
   own-given j js = (refl, upd-same (t .adds) w js)
+
+  -- whoever brings a count to 0 has the task to add
+  pub has-to-add : (op : Op) (i : ℕ) → 0 < t .count i → (after ts time t w op) .count i ≡ 0
+      → (after ts time t w op) .adds ≡ upd (t .adds) w (t .adds w ++ i ∷ [])
+  unfolding after
+  has-to-add (minds (opens j)) i l z =
+      absurd (upd-all (λ k n. 0 < t .count k → n ≡ 0 → ⊥) (t .count) j _ (λ p e. omega arith) (λ k n p e. omega arith) i l z)
+  has-to-add (minds (links j a)) i l z = absurd (omega arith)
+  has-to-add (minds (closes j)) i l z = lowered-to-add (withCreation t (opening (suc j))) w j 1 i l z
+  has-to-add (minds (delivers m ms)) i l z =
+      lowered-to-add (delivered ts t w m ms) w (taskOf ts (m .to)) (newlySatisfied ts t m) i l z
+  has-to-add (minds (tells a f)) i l z = absurd (omega arith)
+  has-to-add (gives j js) i l z = absurd (omega arith)
+  has-to-add (holds j) i l z = absurd (omega arith)
+  has-to-add (takes j) i l z = absurd (omega arith)
+  has-to-add (receives j) i l z = absurd (omega arith)
+  has-to-add (minds (works j k)) i l z = absurd (omega arith)
+  has-to-add (minds (ends j)) i l z = absurd (omega arith)
 
 -- ---- mailboxes
 

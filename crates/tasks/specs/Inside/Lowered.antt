@@ -1,12 +1,13 @@
 -- The two ways in which a task's count falls, and what stays.
 use Prim.Native.Nat.{ℕ, _-_, _<_}
 use native.Mathlib.Omega.{arith}
-use mathlib.Core.Path.{_≡_, refl}
-use mathlib.Core.Logic.{_⊎_, inl, inr}
+use mathlib.Core.Path.{_≡_, refl, ap}
+use mathlib.Core.Logic.{_⊎_, inl, inr, _≢_}
 use mathlib.Core.Bool.{Bool, true, false, _&&_}
 use mathlib.Core.List.{[], _∷_, _++_}
 use lib.Dec.{eqb, ltb}
 use borrow.Author.Tests.{eqb-true, eqb-false, ltb-true, ltb-false}
+use Rattle.runs.specs.Update.{same, upd, upd-same, upd-other}
 use Rattle.tasks.specs.Tasks.{ready, Tasks, withAdds, withCount, withStatus}
 use Rattle.tasks.specs.History.{lowered}
 
@@ -26,6 +27,23 @@ lowered-cases P t w i x f g = go (ltb 0 (t .count i)) refl (eqb (t .count i - x)
     go true p false q = g (inr (omega (arith, eqb-false (t .count i - x) 0 q)))
     go false p true q = g (inl (omega (arith, ltb-false 0 (t .count i) p)))
     go false p false q = g (inl (omega (arith, ltb-false 0 (t .count i) p)))
+
+-- a count that comes to 0 is that of task j, and worker w has it to add
+pub lowered-to-add : (t : Tasks) (w j x i : ℕ) → 0 < t .count i → lowered t w j x .count i ≡ 0
+    → lowered t w j x .adds ≡ upd (t .adds) w (t .adds w ++ i ∷ [])
+lowered-to-add t w j x i l =
+    lowered-cases (λ r. r .count i ≡ 0 → r .adds ≡ upd (t .adds) w (t .adds w ++ i ∷ [])) t w j x
+    (λ _ _. to-0 (same i j)) (λ d z. absurd (above d (same i j) z))
+  where
+    to-0 : (i ≡ j) ⊎ (i ≢ j) → upd (t .count) j 0 i ≡ 0
+        → upd (t .adds) w (t .adds w ++ j ∷ []) ≡ upd (t .adds) w (t .adds w ++ i ∷ [])
+    to-0 (inl e) z = rw e refl
+    to-0 (inr n) z = absurd (omega (arith, upd-other (t .count) j 0 i n))
+
+    above : (t .count j ≡ 0) ⊎ (x < t .count j) → (i ≡ j) ⊎ (i ≢ j) → upd (t .count) j (t .count j - x) i ≢ 0
+    above (inl d) (inl e) z = omega (arith, ap (t .count) e)
+    above (inr d) (inl e) z = omega (arith, ap (upd (t .count) j (t .count j - x)) e, upd-same (t .count) j (t .count j - x))
+    above d (inr n) z = omega (arith, upd-other (t .count) j (t .count j - x) i n)
 
 -- what stays
 pub lowered-runner : (t : Tasks) (w i x : ℕ) → lowered t w i x .runner ≡ t .runner

@@ -187,7 +187,7 @@ noted (becomes-over a b) =
 
 -- what is noted is of a worker, and of times up to n
 abbrev pub Within : ℕ → ℕ → Story → Type 0
-Within W n x = (x .runner ≤ W) × (x .receipt ≤ n) × (x .ending ≤ n)
+Within W n x = (x .runner < W) × (x .receipt ≤ n) × (x .ending ≤ n)
 
 pub within : {W w n time : ℕ} {x y : Story} {a : Acts} → w < W → time ≤ n → Change w time x y a → Within W n x → Within W n y
 within l k (unchanged x) h = h

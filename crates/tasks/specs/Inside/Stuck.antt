@@ -10,13 +10,14 @@ use Rattle.plan.specs.Plan.{Task}
 use Rattle.runs.specs.Update.{same}
 use Rattle.tasks.specs.Accesses.{taskOf, taskAt, first, reader, prev, total}
 use Rattle.tasks.specs.Tasks.{Message, Stand, over, opening, Tasks, isReady, isHeld, isRunning, opened, closed, linked, isEnded}
+use Rattle.tasks.specs.Tasks.{unsatisfied}
 use Rattle.tasks.specs.Inside.LinkLaws.{Links}
 use Rattle.tasks.specs.Inside.Statuses.{only-over}
 use Rattle.runs.specs.Sums.{sum-zeros}
 use Rattle.tasks.specs.Inside.Rights.{Right, toRead, toWrite, granted, passes-one, satisfied-one}
 use Rattle.tasks.specs.Inside.Underway.{toward, underWay, way-empty}
 use Rattle.tasks.specs.Inside.Messages.{due, passing, Messages, granted-once}
-use Rattle.tasks.specs.Inside.Counting.{Counts, unsatisfied, Counting}
+use Rattle.tasks.specs.Inside.Counting.{Counts, Counting, until-closed}
 
 module _ (W : ℕ) (ts : List Task) (laws : Links ts) (s : Tasks) (st : ℕ → Stand) (tasks : Counts ts (s .count) (s .status) (s .creation))
     (i : Messages W ts s st) (counting : Counting ts s)
@@ -56,7 +57,7 @@ module _ (W : ℕ) (ts : List Task) (laws : Links ts) (s : Tasks) (st : ℕ → 
   counted-out : (j : ℕ) → j < length ts → ((k : ℕ) → k < j → s .status k ≡ over) → s .count j ≡ 0
   counted-out j l h =
       let shut : closed (s .creation) ≡ n = ap closed created in
-      omega (arith, counting j (omega (arith, ap opened created)), none-left)
+      omega (arith, counting j (omega (arith, ap opened created)), until-closed (s .creation) j, none-left)
     where
       top : first ts (suc j) ≤ total ts
       top = omega (arith, laws .first-mono (suc j) (length ts) l, laws .first-all (length ts) (omega arith))
