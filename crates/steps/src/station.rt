@@ -50,6 +50,9 @@ pub fn drain(own: &mut [u64], ready: &mut [u64], at: u64, n: u64) -> u64
         → entries (λ k. getD (now (ready .exit)) k 0) READY at r ≡ tasks ++ queue) ⌝ }
 {
     let count = own[QUEUED];
+    if count == 0 {
+        return n;
+    }
     let mut i: u64 = 0;
     while i < count {
         let to = ((at + n + i) % READY) as usize;

@@ -2,15 +2,37 @@
 //! implementation's, on the same plans, in one run. A time holds the whole call:
 //! reading, clearing the store and the report too. Only lines whose name has PART
 //! in it are measured, if one is given.
+//!
+//! The same machine code takes up to twice as long where stack and store happen to
+//! lie badly to each other, so each repetition has them elsewhere; and 15 % more or
+//! less by where the linker puts it, so `tests/compare_speed` measures two builds in
+//! four links each: PAD bytes, given when it is built, stand before all code.
 
 use second::plan::Refusal;
 use second::run::{Reported, STORE_SIZE};
 use std::hint::black_box;
 use std::time::Instant;
 
-const REPETITIONS: usize = 15;
+const REPETITIONS: usize = 16;
 /// Picks that one measured time holds at least, by calling again.
-const PICKS: u64 = 400_000;
+const PICKS: u64 = 200_000;
+/// Bytes by which the stack lies deeper with each of so many steps, and numbers by
+/// which the store lies further on: together they go over a page.
+const STACK_STEP: usize = 200;
+const STORE_STEP: usize = 31;
+const STEPS: usize = 16;
+
+/// Moves the code behind it by PAD bytes. It is called so that it is linked.
+#[cfg(padded)]
+#[link_section = ".text.unlikely.pad"]
+#[inline(never)]
+fn pad() {
+    // SAFETY: it jumps over the bytes that are left out, and does nothing else
+    unsafe { std::arch::asm!(concat!("jmp 2f\n.skip ", env!("PAD"), "\n2:")) }
+}
+
+#[cfg(not(padded))]
+fn pad() {}
 
 type Run = fn(&[u8], u64, &mut [u64], &mut [u8]) -> Result<Reported, Refusal>;
 
@@ -151,30 +173,46 @@ fn timed(run: Run, case: &Case, calls: u64, store: &mut [u64], output: &mut [u8]
     (start.elapsed().as_secs_f64(), picks)
 }
 
-/// The best and the median of some times.
-fn summary(mut times: Vec<f64>) -> (f64, f64) {
-    times.sort_by(f64::total_cmp);
-    (times[0], times[times.len() / 2])
+/// Does something with the stack so many steps deeper.
+fn deeper(steps: usize, work: &mut dyn FnMut()) {
+    let room = black_box([0u8; STACK_STEP]);
+    if steps == 0 {
+        work();
+    } else {
+        deeper(steps - 1, work);
+    }
+    black_box(&room);
+}
+
+/// The best and the median of some numbers.
+fn summary(mut numbers: Vec<f64>) -> (f64, f64) {
+    numbers.sort_by(f64::total_cmp);
+    (numbers[0], numbers[numbers.len() / 2])
 }
 
 fn measure(case: &Case) {
-    let mut store = vec![0; case.store];
+    let mut room = vec![0; case.store + STORE_STEP * STEPS];
     let mut output = vec![0; 16_384];
     let proved: Run = linked::bench::run;
     let second: Run = second::run::run;
-    let (_, picks) = timed(proved, case, 1, &mut store, &mut output);
+    let (_, picks) = timed(proved, case, 1, &mut room, &mut output);
     let calls = PICKS.div_ceil(picks);
     let scale = 1e9 / (picks * calls) as f64;
     let (mut ours, mut theirs) = (Vec::new(), Vec::new());
     // in turn, so that what else the machine does counts for both
-    for _ in 0..REPETITIONS {
-        let (time, taken) = timed(proved, case, calls, &mut store, &mut output);
-        ours.push(time * scale);
-        let (time, expected) = timed(second, case, calls, &mut store, &mut output);
-        theirs.push(time * scale);
-        assert_eq!(taken, expected, "{}", case.name);
+    for i in 0..REPETITIONS {
+        let from = STORE_STEP * (i * 5 % STEPS);
+        let store = &mut room[from..][..case.store];
+        deeper(i % STEPS, &mut || {
+            let (time, taken) = timed(proved, case, calls, store, &mut output);
+            let (beside, expected) = timed(second, case, calls, store, &mut output);
+            assert_eq!(taken, expected, "{}", case.name);
+            ours.push(time * scale);
+            theirs.push(beside * scale);
+        });
     }
-    let ((best, median), (second_best, second_median)) = (summary(ours), summary(theirs));
+    let (best, median) = summary(ours);
+    let (second_best, second_median) = summary(theirs);
     println!(
         "{:46} {:9} {:7.2} {:7.2} {:7.2} {:7.2} {:6.2} {:6.2}",
         case.name,
@@ -189,6 +227,7 @@ fn measure(case: &Case) {
 }
 
 fn main() {
+    pad();
     let part = std::env::args().nth(1).unwrap_or_default();
     println!(
         "{:46} {:>9} {:>15} {:>15} {:>13}",

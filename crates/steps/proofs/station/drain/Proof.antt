@@ -1,16 +1,17 @@
 -- `station/drain` meets its contract.
 use Prim.Native.Nat.{_+_, _-_, _≤_}
-use mathlib.Core.Path.{_≡_, refl}
-use mathlib.Core.List.{_++_, append-nil}
+use mathlib.Core.Path.{_≡_, refl, sym, ap, _∙_}
+use mathlib.Core.List.{[], _++_, append-nil}
 use native.Mathlib.Nat.{add-zero}
 use native.Mathlib.Numerals.{add-one}
 use native.Mathlib.Omega.{arith}
-use lib.ListN.{length, getD, length-set}
+use lib.ListN.{length, getD, set, length-set}
+use lib.Seq.{set-getD}
 use borrow.Author.Needs.{needs}
 use Rattle.runs.specs.Circular.{entries}
 use Rattle.steps.specs.Layout.{queuedAt, queueSlots, READY}
 use Rattle.runs.specs.Circular.{entries-none}
-use Rattle.steps.specs.Memory.{drained}
+use Rattle.steps.specs.Memory.{emptied, drained}
 use Rattle.steps.proofs.Stations.{queueSlot, stationed-drained, drain-turn}
 use Rattle.steps.proofs.station.drain.Statement.{statement}
 use Rattle.steps.proofs.station.drain.Tie as tie
@@ -29,10 +30,26 @@ abbrev μ-loop : tie.MeasureT-loop
 slice-read-count : tie.Need-slice-read-count Inv-loop μ-loop
 slice-read-count c = search needs
 
+returns : tie.Need-returns Inv-loop μ-loop
+unfolding drained
+returns c =
+    let s = c .before .before in
+    let own = s .args .own .now in
+    let none : getD own queuedAt 0 ≡ 0 = c .if1 .taken in
+    let same : emptied own ≡ own = ap (set own queuedAt) (sym none) ∙ set-getD own queuedAt 0 in
+    let empty : entries (queueSlot own) queueSlots 0 (getD own queuedAt 0) ≡ [] =
+    rw none (entries-none (queueSlot own) queueSlots 0) in (
+      (omega (arith, none), sym same, rw (none, drained)),
+      (
+        λ p queue h. rw same at (stationed-drained h),
+        λ p queue tasks h e. e ∙ sym (append-nil tasks) ∙ ap (λ q. tasks ++ q) (sym empty ∙ h .queue),
+      ),
+    )
+
 loop-holds : tie.Need-loop-holds Inv-loop μ-loop
 unfolding drained
 loop-holds c =
-    let s = c .before in
+    let s = c .before .before in
     (search needs, refl, refl, refl, rw (entries-none (queueSlot (s .args .own .now)) queueSlots 0, append-nil, add-zero))
 
 add-to : tie.Need-add-to Inv-loop μ-loop
@@ -66,7 +83,7 @@ loop-again : tie.Need-loop-again Inv-loop μ-loop
 unfolding drained
 loop-again c =
     let l = c .before .before .loop in
-    let s = c .before .before .before .before in
+    let s = c .before .before .before .before .before in
     let turn =
     drain-turn (s .args .own .now) (l .ready) (s .args .ready .now) (s .args .at) (s .args .n) (l .i)
     (omega (arith, s .pre)) (omega (arith, s .pre)) (omega (arith, s .pre)) (l .inv .4) in
@@ -84,10 +101,10 @@ same-length c = search needs
 same-length-2 : tie.Need-same-length-2 Inv-loop μ-loop
 same-length-2 c = search needs
 
-returns : tie.Need-returns Inv-loop μ-loop
-returns c =
+returns-2 : tie.Need-returns-2 Inv-loop μ-loop
+returns-2 c =
     let l = c .before .loop in
-    let s = c .before .before .before in
+    let s = c .before .before .before .before in
     let all : l .i ≡ getD (s .args .own .now) queuedAt 0 = omega (arith, l .inv) in (
       (omega (arith, l .inv .1), refl, rw all at (l .inv .3)),
       (λ p queue h. stationed-drained h, λ p queue tasks h e. let q = h .queue in cc),
@@ -100,6 +117,7 @@ drain-spec =
     Inv-loop
     μ-loop
     slice-read-count
+    returns
     loop-holds
     add-to
     add-to-2
@@ -115,4 +133,4 @@ drain-spec =
     add-result
     same-length
     same-length-2
-    returns)
+    returns-2)
