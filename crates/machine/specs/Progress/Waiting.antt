@@ -61,6 +61,10 @@ abbrev pub OutOfWait : Setup → ℕ → State → Type 0
 OutOfWait c w s =
     ((i : ℕ) × (s .place w ≡ idle) × (s .stand w ≡ T.working i (taskAt (c .tasks) i .cost))) ⊎ (s .place w ≡ draining forServing 0)
 
+-- who is out of the wait is out of the lock or owns it
+pub out-stand : (c : Setup) (s : State) (w : ℕ) → OutOfWait c w s → (lockStand (s .place w) ≡ H.out) ⊎ (lockStand (s .place w) ≡ H.owning)
+out-stand c s w = ⊎-elim (λ (i, z, r). inl (ap lockStand z)) (λ z. inr (ap lockStand z))
+
 -- a waiting worker is out of the wait by the pick in which it receives a task or owns the lock, and by no other
 pub out-by : (c : Setup) (s : State) (w t : ℕ) → s .place w ≡ looking t → OutOfWait c w (step c s w)
     → ((i : ℕ) × (event c s w ≡ receives t i)) ⊎ (event c s w ≡ owns t)
@@ -71,7 +75,7 @@ out-by c s w t p out = go (L.look (c .slots) (s .lock) t w) refl
     still e = rw (event-wait c s w p e, upd-same) p
 
     go : (x : L.Look) → L.look (c .slots) (s .lock) t w ≡ x → ((i : ℕ) × (event c s w ≡ receives t i)) ⊎ (event c s w ≡ owns t)
-    go L.notYet e = let q = still e in ⊎-elim (λ (i, z, r). clash (cc)) (λ z. clash (cc)) out
+    go L.notYet e = let q = ap lockStand (still e) in ⊎-elim (λ z. clash (cc)) (λ z. clash (cc)) (out-stand c (step c s w) w out)
     go (L.receives i) e = inl (i, event-receive c s w p e)
     go L.owns e = inr (event-own c s w p e)
 
