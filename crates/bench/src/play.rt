@@ -172,7 +172,7 @@ fn run_in(
 }
 
 // Runs a plan that was read, from a store whose shares are all 0.
-pub fn run_plan(
+pub(crate) fn run_plan(
     text: &[u8],
     plan: &[u64],
     lines: &[u64],

@@ -10,7 +10,7 @@ use refusals::put_refusal;
 const NO_LIMIT: u64 = 18446744073709551615;
 
 // Puts it into the first bytes of an output, and leaves the store as a run does; how many bytes it has.
-pub fn answer(text: &[u8], store: &mut [u64], output: &mut [u8]) -> usize
+pub(crate) fn answer(text: &[u8], store: &mut [u64], output: &mut [u8]) -> usize
     requires { ⌜ (storeSize ≤ length (now store)) × (longest ≤ length (now output)) ⌝ }
     ensures store { λ _. ⌜ now (store .exit) ≡ (run (2 ^ 64 - 1) (now (store .entry)) (now (output .entry)) (now (text .entry))) .store ⌝ }
     ensures length { λ r. ⌜ (r ≤ length (now (output .exit))) × (r ≡ length (take r (now (output .exit)))) ⌝ }

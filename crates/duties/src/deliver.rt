@@ -94,7 +94,7 @@ fn give_notice(own: &mut [u64], sender: u64, flags: u64) -> u64
 }
 
 // Lowers the count of a task; where that brings it to 0 the worker has the task to add.
-pub fn lower(rows: &mut [u64], own: &mut [u64], task: u64, by: u64)
+pub(crate) fn lower(rows: &mut [u64], own: &mut [u64], task: u64, by: u64)
     requires { ⌜ (length (now rows) ≡ layout.taskRows) × (task < layout.mostTasks)
         × (length (now own) ≡ layout.part) × (getD (now own) layout.addsAt 0 < layout.addRoom) ⌝ }
     requires { ⌜ (0 < taskNumber (now rows) task layout.count → taskNumber (now rows) task layout.count ≤ by
@@ -120,7 +120,7 @@ pub fn lower(rows: &mut [u64], own: &mut [u64], task: u64, by: u64)
 }
 
 // Delivers the oldest message.
-pub fn deliver(n: Tally, rows: &mut [u64], accesses: &mut [u64], own: &mut [u64]) -> Tally
+pub(crate) fn deliver(n: Tally, rows: &mut [u64], accesses: &mut [u64], own: &mut [u64]) -> Tally
     requires { ⌜ ((w : ℕ) × Able (memory n (now rows) (now accesses)) (now own) w)
         × (getD (now own) layout.stand 0 ≡ layout.free) × (0 < getD (now own) layout.mailCount 0) ⌝ }
     ensures { λ r. ⌜ ((k w : ℕ) → Acts itsDuty k (memory n (now (rows .entry)) (now (accesses .entry))) (now (own .entry))
@@ -139,7 +139,7 @@ pub fn deliver(n: Tally, rows: &mut [u64], accesses: &mut [u64], own: &mut [u64]
 }
 
 // Tells the sender of a pass message what it has passed on.
-pub fn tell(n: Tally, accesses: &mut [u64], own: &mut [u64]) -> Tally
+pub(crate) fn tell(n: Tally, accesses: &mut [u64], own: &mut [u64]) -> Tally
     requires { ⌜ ((m : TaskMemory) × (w : ℕ) × Able (memory n (m .rows) (now accesses)) (now own) w)
         × (getD (now own) layout.stand 0 ≡ layout.telling) ⌝ }
     ensures { λ r. ⌜ ((m : TaskMemory) (k w : ℕ) → Acts itsDuty k (memory n (m .rows) (now (accesses .entry))) (now (own .entry))

@@ -3,20 +3,20 @@ ghost use mathlib.Core.Path.{_≡_};
 ghost use Prim.Native.Nat.{_+_, _*_, _≤_};
 ghost use Rattle.tasks.specs.Flags.{Flags, flagNumber, passesRead, passesWrite, satisfied, Once};
 
-pub const READ_WRITE: u64 = 3;
+pub(crate) const READ_WRITE: u64 = 3;
 
-pub const DONE: u64 = 4;
+pub(crate) const DONE: u64 = 4;
 
-pub const NEXT: u64 = 8;
+pub(crate) const NEXT: u64 = 8;
 
 // A flag number's remainder by this is READ and WRITE.
-pub const RIGHTS: u64 = 4;
+pub(crate) const RIGHTS: u64 = 4;
 
 // READ and WRITE, times this, are SENT_READ and SENT_WRITE.
-pub const SENT: u64 = 16;
+pub(crate) const SENT: u64 = 16;
 
 // READ 1 and WRITE 2, where they pass on.
-pub fn passing(reader: u64, flags: u64) -> u64
+pub(crate) fn passing(reader: u64, flags: u64) -> u64
     ensures { λ r. ⌜ ((f : Flags) → Once f → reader ≤ 1 → flags ≡ flagNumber f → r ≡ passesRead reader f + 2 * passesWrite f) ⌝ }
 {
     if flags / NEXT % 2 == 0 {
@@ -32,7 +32,7 @@ pub fn passing(reader: u64, flags: u64) -> u64
 }
 
 // 1 where the access is satisfied.
-pub fn is_satisfied(reader: u64, flags: u64) -> u64
+pub(crate) fn is_satisfied(reader: u64, flags: u64) -> u64
     ensures { λ r. ⌜ ((f : Flags) → Once f → reader ≤ 1 → flags ≡ flagNumber f → r ≡ satisfied reader f) ⌝ }
 {
     if reader == 1 {

@@ -51,7 +51,7 @@ fn end(n: Tally, rows: &mut [u64], own: &mut [u64], time: u64) -> Tally
 }
 
 // Works on the task, or ends it.
-pub fn work(n: Tally, rows: &mut [u64], own: &mut [u64], time: u64) -> Tally
+pub(crate) fn work(n: Tally, rows: &mut [u64], own: &mut [u64], time: u64) -> Tally
     requires { ⌜ ((m : TaskMemory) × (w : ℕ) × Able (memory n (now rows) (m .accesses)) (now own) w)
         × (getD (now own) layout.stand 0 ≡ layout.working) ⌝ }
     ensures { λ r. ⌜ ((m : TaskMemory) (w : ℕ) → Acts itsDuty time (memory n (now (rows .entry)) (m .accesses)) (now (own .entry))

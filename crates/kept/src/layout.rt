@@ -24,7 +24,7 @@ pub const ACCESSES: usize = 4;
 pub const ACCESS_ROW: usize = 2;
 
 // An order line: its code, and the seed.
-pub const ORDER_ROW: usize = 2;
+pub(crate) const ORDER_ROW: usize = 2;
 
 // A code is the count times WHO, and the picked worker or one of these two.
 pub const WHO: u64 = 64;

@@ -22,14 +22,14 @@ const TOO_MANY: usize = 5;
 
 // What is read of a task's accesses: how many, counted up to five, whether an address was out of range, and whether one came again. The
 // first four stand in the task's row.
-pub struct Accesses {
+pub(crate) struct Accesses {
     pub count: usize,
     pub out: bool,
     pub again: bool,
 }
 
 // None is read yet.
-pub fn no_accesses() -> Accesses
+pub(crate) fn no_accesses() -> Accesses
     ensures { λ r. ⌜ ((t : Placed) → Reads t [] r (rowOf (withAccesses t []))) ⌝ }
 {
     Accesses {
@@ -56,7 +56,7 @@ fn is_touched(row: &[u64], n: usize, address: u64) -> bool
 }
 
 // One access more: from the fifth on only counted.
-pub fn with_access(a: Accesses, row: &mut [u64], writes: u64, address: u64) -> Accesses
+pub(crate) fn with_access(a: Accesses, row: &mut [u64], writes: u64, address: u64) -> Accesses
     requires { ⌜ length (now row) ≡ lay.taskRow ⌝ }
     ensures { λ r. ⌜ ((t : Placed) (xs : List Access) (b : Bool) → writes ≡ bit b → Reads t xs a (now (row .entry))
         → Reads t (xs ++ access b address ∷ []) r (now (row .exit))) ⌝ }
@@ -83,7 +83,7 @@ pub fn with_access(a: Accesses, row: &mut [u64], writes: u64, address: u64) -> A
 }
 
 // The fault of a task's line, of which place and cost have this one: it is task number n.
-pub fn judge_task(fault: Fault, a: Accesses, n: usize) -> Fault
+pub(crate) fn judge_task(fault: Fault, a: Accesses, n: usize) -> Fault
     ensures { λ r. ⌜ r ≡ taskFault fault a n ⌝ }
 {
     if let Fault::Is(_) = fault {

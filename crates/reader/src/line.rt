@@ -41,20 +41,20 @@ const MOST_ROUNDS: u64 = 1000000;
 const MOST_SEEDED: u64 = 1000000;
 
 // What a line is refused with.
-pub enum Fault {
+pub(crate) enum Fault {
     Nothing,
     Is(Refusal),
 }
 
 // What a line says besides its fault.
-pub enum Kind {
+pub(crate) enum Kind {
     Workers,
     Task,
     Order,
 }
 
 // What the lines so far come to: the workers (0 before the W line), how many tasks, how many order lines.
-pub struct Sofar {
+pub(crate) struct Sofar {
     pub workers: u64,
     pub tasks: usize,
     pub orders: usize,
@@ -62,7 +62,7 @@ pub struct Sofar {
 
 // A line as it was read: its fault, and the place after it. The numbers are the workers, or what is kept of an order line. Of a task's line
 // the accesses are still to be read: `more` says whether there is one, and the fault is that of its place and its cost.
-pub struct Line {
+pub(crate) struct Line {
     pub kind: Kind,
     pub first: u64,
     pub second: u64,
@@ -94,7 +94,7 @@ fn outside(low: u64, high: u64, n: u64) -> bool
     high < n
 }
 
-pub fn either(a: bool, b: bool) -> bool
+pub(crate) fn either(a: bool, b: bool) -> bool
     ensures { λ r. ⌜ r ≡ (a || b) ⌝ }
 {
     if a {
@@ -323,7 +323,7 @@ fn task_line(text: &[u8], at: usize, sofar: Sofar, row: &mut [u64]) -> Line
 }
 
 // The line at a place: a letter and a tab, and the fields of its kind.
-pub fn read_line(text: &[u8], at: usize, sofar: Sofar, row: &mut [u64]) -> Line
+pub(crate) fn read_line(text: &[u8], at: usize, sofar: Sofar, row: &mut [u64]) -> Line
     requires { ⌜ (at < length (now text)) × (length (now row) ≡ lay.taskRow) × (sofar .workers ≤ 32) ⌝ }
     ensures { λ r. ⌜ ((p : Plan) → Sums sofar p → LineAt (now (text .entry)) at p (now (row .exit)) r) ⌝ }
 {

@@ -18,7 +18,7 @@ use text::number::put_if;
 use text::number::put_number;
 use text::write::put_field;
 
-pub fn put_outcome_line(finished: bool, picks: u64, out: &mut [u8], at: usize) -> usize
+pub(crate) fn put_outcome_line(finished: bool, picks: u64, out: &mut [u8], at: usize) -> usize
     requires { ⌜ at + outcomeLineSize < 2 ^ 64 ⌝ }
     ensures short { λ r. ⌜ r ≤ at + outcomeLineSize ⌝ }
     ensures wrote { λ r. ⌜ Wrote (now (out .entry)) at (fields (outcomeFields finished picks)) r (now (out .exit)) ⌝ }
@@ -28,7 +28,7 @@ pub fn put_outcome_line(finished: bool, picks: u64, out: &mut [u8], at: usize) -
     put_number(picks, b'\n', out, next)
 }
 
-pub fn put_lock_line(head: u64, tail: u64, owner: u64, out: &mut [u8], at: usize) -> usize
+pub(crate) fn put_lock_line(head: u64, tail: u64, owner: u64, out: &mut [u8], at: usize) -> usize
     requires { ⌜ at + lockLineSize < 2 ^ 64 ⌝ }
     ensures { λ r. ⌜ ((o : Option ℕ) → optionCode o ≡ owner
         → Wrote (now (out .entry)) at (fields (lockFields head tail o)) r (now (out .exit))) ⌝ }
@@ -39,7 +39,7 @@ pub fn put_lock_line(head: u64, tail: u64, owner: u64, out: &mut [u8], at: usize
     put_owner(owner, out, next)
 }
 
-pub fn put_task_line(i: u64, label: &[u8], task: Outcome, out: &mut [u8], at: usize) -> usize
+pub(crate) fn put_task_line(i: u64, label: &[u8], task: Outcome, out: &mut [u8], at: usize) -> usize
     requires { ⌜ (at + taskLineSize < 2 ^ 64) × (length (now label) ≤ layout.mostLabel) ⌝ }
     ensures short { λ r. ⌜ r ≤ at + taskLineSize ⌝ }
     ensures wrote { λ r. ⌜ ((x : Status) → statusCode x ≡ task .status

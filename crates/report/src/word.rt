@@ -13,7 +13,7 @@ use memory::layout;
 use text::number::put_number;
 use text::write::put_field;
 
-pub fn put_outcome(finished: bool, out: &mut [u8], at: usize) -> usize
+pub(crate) fn put_outcome(finished: bool, out: &mut [u8], at: usize) -> usize
     requires { ⌜ at + outcomeSize < 2 ^ 64 ⌝ }
     ensures { λ r. ⌜ Wrote (now (out .entry)) at (field (outcomeName finished) tab) r (now (out .exit)) ⌝ }
 {
@@ -23,7 +23,7 @@ pub fn put_outcome(finished: bool, out: &mut [u8], at: usize) -> usize
     put_field(b"open", b'\t', out, at)
 }
 
-pub fn put_status(status: u64, out: &mut [u8], at: usize) -> usize
+pub(crate) fn put_status(status: u64, out: &mut [u8], at: usize) -> usize
     requires { ⌜ at + statusSize < 2 ^ 64 ⌝ }
     ensures short { λ r. ⌜ r ≤ at + statusSize ⌝ }
     ensures wrote { λ r. ⌜ ((x : Status) → statusCode x ≡ status
@@ -40,7 +40,7 @@ pub fn put_status(status: u64, out: &mut [u8], at: usize) -> usize
 }
 
 // The owner's number, which is given as 1 more, or none, given as 0.
-pub fn put_owner(owner: u64, out: &mut [u8], at: usize) -> usize
+pub(crate) fn put_owner(owner: u64, out: &mut [u8], at: usize) -> usize
     requires { ⌜ at + numberSize < 2 ^ 64 ⌝ }
     ensures { λ r. ⌜ ((o : Option ℕ) → optionCode o ≡ owner
         → Wrote (now (out .entry)) at (field (numberOrNone o) lineFeed) r (now (out .exit))) ⌝ }

@@ -95,7 +95,7 @@ fn lay_accesses(accesses: &mut [u64], plan: &[u64], n: usize, task: usize, at: u
 }
 
 // Lays a plan's accesses, so many.
-pub fn lay_plan_accesses(plan: &[u64], count: usize, accesses: &mut [u64], total: usize)
+pub(crate) fn lay_plan_accesses(plan: &[u64], count: usize, accesses: &mut [u64], total: usize)
     requires { ⌜ (length (now plan) ≡ keep.taskRows) × (length (now accesses) ≡ layout.accessRows) ⌝ }
     requires { ⌜ Readable (now plan) count ⌝ }
     ensures { λ _. ⌜ OfPlan (now (plan .entry)) count (λ text p. total ≡ Total (p .tasks) →

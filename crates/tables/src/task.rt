@@ -10,7 +10,12 @@ use memory::labels::lay_label;
 use memory::rows::lay_task;
 
 // Lays a plan's tasks and labels; how many accesses there are.
-pub fn lay_plan_tasks(plan: &[u64], count: usize, tasks: &mut [u64], labels: &mut [u64]) -> usize
+pub(crate) fn lay_plan_tasks(
+    plan: &[u64],
+    count: usize,
+    tasks: &mut [u64],
+    labels: &mut [u64],
+) -> usize
     requires { ⌜ (length (now plan) ≡ keep.taskRows) × (length (now tasks) ≡ layout.taskRows)
         × (length (now labels) ≡ layout.labelRows) ⌝ }
     requires { ⌜ Readable (now plan) count ⌝ }

@@ -18,13 +18,13 @@ pub enum Number {
 }
 
 // The digits so far.
-pub struct Digits {
-    pub value: u64,
-    pub fits: bool,
+struct Digits {
+    value: u64,
+    fits: bool,
 }
 
 // What is seen past a text's end.
-pub const NONE: u64 = 256;
+const NONE: u64 = 256;
 
 pub const TAB: u64 = 9;
 

@@ -2,7 +2,7 @@
 ghost use mathlib.Core.List.{[], _∷_};
 ghost use Rattle.text.specs.Writing.{plain, field, Ends, Wrote};
 
-pub fn put_byte(byte: u8, out: &mut [u8], at: usize) -> usize
+pub(crate) fn put_byte(byte: u8, out: &mut [u8], at: usize) -> usize
     requires { ⌜ Ends at (plain (byte ∷ [])) ⌝ }
     ensures { λ r. ⌜ Wrote (now (out .entry)) at (plain (byte ∷ [])) r (now (out .exit)) ⌝ }
 {
@@ -13,7 +13,7 @@ pub fn put_byte(byte: u8, out: &mut [u8], at: usize) -> usize
     at + 1
 }
 
-pub fn put_bytes(bytes: &[u8], out: &mut [u8], at: usize) -> usize
+fn put_bytes(bytes: &[u8], out: &mut [u8], at: usize) -> usize
     requires { ⌜ Ends at (plain (now bytes)) ⌝ }
     ensures { λ r. ⌜ Wrote (now (out .entry)) at (plain (now (bytes .entry))) r (now (out .exit)) ⌝ }
 {
