@@ -11,7 +11,7 @@ use Rattle.machine.specs.Ranges.{Sized}
 use Rattle.machine.specs.Whereabouts.{owner}
 use Rattle.memory.specs.Layout as layout
 use Rattle.memory.specs.Codes.{optionCode}
-use Rattle.memory.specs.Labels.{Labels, labelAt}
+use Rattle.memory.specs.Labels.{Labels}
 use Rattle.steps.specs.declared.Counts.{Counts}
 use Rattle.steps.specs.Memory.{share, Memory, withCounts, withTasks, Holds}
 use Rattle.report.specs.declared.Summary.{Summary}
@@ -48,12 +48,9 @@ module _ (n : Counts) (store : List ℕ) (r : Summary) (summed : Summed n store 
           labels = labels;
         }
 
-    -- what the report asks of the number of tasks and of their labels
+    -- what the report asks of the number of tasks
     pub few-tasks : Sized c → r .tasks ≤ layout.mostTasks
     few-tasks sized = omega (arith, tasks-counted, sized .tasks)
-
-    pub short-labels : (i : ℕ) → i < r .tasks → labelAt places i .size ≤ layout.mostLabel
-    short-labels i l = labels i (omega (arith, tasks-counted)) .short
 
     module _ (limit : ℕ) (left output : List ℕ) where
       pub too-short : length output < length (report c s)

@@ -1,6 +1,6 @@
 // Writes the report: see specs/Report.antt for its bytes, and specs/Shown.antt for what the numbers here say of a state.
 ghost use mathlib.Core.Path.{_≡_};
-ghost use Prim.Native.Nat.{ℕ, _+_, _^_, _≤_, _<_};
+ghost use Prim.Native.Nat.{_+_, _^_, _≤_, _<_};
 ghost use lib.ListN.{length};
 ghost use Rattle.text.specs.Writing.{plain, fields, Wrote};
 ghost use Rattle.machine.specs.State.{Setup, State};
@@ -49,7 +49,8 @@ fn put_task(
     put_task_line(i as u64, label, outcome_of(tasks, i), out, at)
 }
 
-// Writes the report into the first bytes of an output, as far as it reaches; how many bytes it has.
+// Writes the report into the first bytes of an output, as far as it reaches; how many bytes it has. The numbers must show a state, so
+// for every call that is allowed the output is fixed.
 pub fn put_report(
     summary: Summary,
     text: &[u8],
@@ -57,8 +58,8 @@ pub fn put_report(
     labels: &[u64],
     output: &mut [u8],
 ) -> usize
-    requires { ⌜ (length (now tasks) ≡ layout.taskRows) × (length (now labels) ≡ layout.labelRows) × (summary .tasks ≤ layout.mostTasks)
-        × ((i : ℕ) → i < summary .tasks → labelAt (now labels) i .size ≤ layout.mostLabel) ⌝ }
+    requires { ⌜ (length (now tasks) ≡ layout.taskRows) × (length (now labels) ≡ layout.labelRows) × (summary .tasks ≤ layout.mostTasks) ⌝ }
+    requires { ⌜ ((c : Setup) × (s : State) × Shown c s summary (now tasks) (now labels) (now text)) ⌝ }
     ensures { λ r. ⌜ ((c : Setup) (s : State) → Shown c s summary (now (tasks .entry)) (now (labels .entry)) (now (text .entry))
         → Wrote (now (output .entry)) 0 (plain (report c s)) r (now (output .exit))) ⌝ }
 {

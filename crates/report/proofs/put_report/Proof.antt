@@ -35,7 +35,9 @@ put-task-requires c κs =
     let s = c .before .before .before .before .before .before .before .before .before .before .before in
     let turn = c .before .before .loop in
     let less = c .before .loop-test .taken in
-    (s .pre .0, s .pre .1, omega arith, s .pre .3 (turn .i) less, omega (arith, turn .inv .2))
+    let (_, _, shown) = s .pre .1 in
+    let short = shown .labels (turn .i) (omega (arith, shown .count)) .short in
+    (s .pre .0 .0, s .pre .0 .1, omega arith, short, omega (arith, turn .inv .2))
 
 add-i : tie.Need-add-i Inv-loop μ-loop
 add-i c = omega arith

@@ -5,7 +5,7 @@ use lib.ListN.{length}
 use borrow.Author.Needs.{needs}
 use Rattle.text.specs.WritingLaws.{told-length, wrote-whole, counted}
 use Rattle.report.specs.Report.{report}
-use Rattle.bench.proofs.Answering.{shown, few-tasks, short-labels, too-short, long-enough}
+use Rattle.bench.proofs.Answering.{shown, few-tasks, too-short, long-enough}
 use Rattle.bench.proofs.play.answer_of.Statement.{statement}
 use Rattle.bench.proofs.play.answer_of.Tie as tie
 
@@ -26,14 +26,12 @@ put-report-requires c κs =
     let sum = c .before .summary-of in
     let start = c .before .before .before .before .before .before .before in
     let args = start .args in
-    let (m, d, s, sized, labels, holds) = start .pre .1 in (
-      start .pre .0 .1,
-      start .pre .0 .2,
-      few-tasks (args .n) (args .store .now) (sum .result) (sum .ensures) m d s
-          (args .rows .now) (args .text .now) (args .labels .now) labels holds sized,
-      short-labels (args .n) (args .store .now) (sum .result) (sum .ensures) m d s
-          (args .rows .now) (args .text .now) (args .labels .now) labels holds,
-    )
+    let (m, d, s, sized, labels, holds) = start .pre .1 in
+    let few = few-tasks (args .n) (args .store .now) (sum .result) (sum .ensures) m d s
+    (args .rows .now) (args .text .now) (args .labels .now) labels holds sized in
+    let is = shown (args .n) (args .store .now) (sum .result) (sum .ensures) m d s
+    (args .rows .now) (args .text .now) (args .labels .now) labels holds in
+    ((start .pre .0 .1, start .pre .0 .2, few), (d, s, is))
 
 same-length : tie.Need-same-length
 same-length c = search needs
@@ -57,14 +55,12 @@ put-report-requires-2 c κs =
     let sum = c .before .before .before .before .before .before .summary-of in
     let start = c .before .before .before .before .before .before .before .before .before .before .before .before in
     let args = start .args in
-    let (m, d, s, sized, labels, holds) = start .pre .1 in (
-      start .pre .0 .1,
-      start .pre .0 .2,
-      few-tasks (args .n) (args .store .now) (sum .result) (sum .ensures) m d s
-          (args .rows .now) (args .text .now) (args .labels .now) labels holds sized,
-      short-labels (args .n) (args .store .now) (sum .result) (sum .ensures) m d s
-          (args .rows .now) (args .text .now) (args .labels .now) labels holds,
-    )
+    let (m, d, s, sized, labels, holds) = start .pre .1 in
+    let few = few-tasks (args .n) (args .store .now) (sum .result) (sum .ensures) m d s
+    (args .rows .now) (args .text .now) (args .labels .now) labels holds sized in
+    let is = shown (args .n) (args .store .now) (sum .result) (sum .ensures) m d s
+    (args .rows .now) (args .text .now) (args .labels .now) labels holds in
+    ((start .pre .0 .1, start .pre .0 .2, few), (d, s, is))
 
 same-length-2 : tie.Need-same-length-2
 same-length-2 c = search needs
