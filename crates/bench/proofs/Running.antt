@@ -19,12 +19,13 @@ use Rattle.kept.specs.OrderLaws.{has-orders}
 use Rattle.reader.specs.declared.ReadPlan.{ReadPlan}
 use Rattle.reader.specs.declared.Checked.the-variants.{Accepted, Refused}
 use Rattle.reader.specs.Verdict.{Lent, Gives}
-use Rattle.bench.specs.declared.Answer.{Answer}
-use Rattle.bench.specs.declared.Answer.the-variants.{Refuses}
-use Rattle.bench.specs.Loaded.{Loaded}
-use Rattle.bench.specs.Written.{written-short, written-whole}
 use Rattle.orders.specs.Reached.{reached}
-use Rattle.bench.specs.Answer.{textSize, storeSize, Outcome, reportOf, written, played, run}
+use Rattle.play.specs.declared.Answer.{Answer}
+use Rattle.play.specs.declared.Answer.the-variants.{Refuses}
+use Rattle.play.specs.Outcome.{Outcome, reportOf, written}
+use Rattle.play.specs.Loaded.{Loaded}
+use Rattle.play.specs.Written.{written-short, written-whole}
+use Rattle.bench.specs.Answer.{textSize, storeSize, cleared, played, run}
 
 -- what a plan that was read says of the text's reading
 module _ (text : List ℕ) (before after : Lent) (r : ReadPlan) (g : Gives text before after r (reading text)) where
@@ -86,15 +87,15 @@ module _ (limit : ℕ) (store output text : List ℕ) where
         ∙ sym (ap (played limit store output) e)
 
     written-store : (picks : ℕ) (bs : List ℕ)
-        → (written limit store output picks bs) .store ≡ replicate storeSize 0 ++ drop storeSize store
+        → (written (cleared store) output picks bs) .store ≡ replicate storeSize 0 ++ drop storeSize store
     written-store picks bs =
-        ⊎-elim (λ (l : length output < length bs). ap (λ (o : Outcome). o .store) (written-short limit store output picks bs l))
-        (λ (l : length bs ≤ length output). ap (λ (o : Outcome). o .store) (written-whole limit store output picks bs l))
+        ⊎-elim (λ (l : length output < length bs). ap (λ (o : Outcome). o .store) (written-short (cleared store) output picks bs l))
+        (λ (l : length bs ≤ length output). ap (λ (o : Outcome). o .store) (written-whole (cleared store) output picks bs l))
         (order (length output) (length bs))
 
     pub played-accepted : (p : Plan) (answer : Answer) (out : List ℕ) → reading text ≡ accepted p
-        → (answer ≡ (written limit store output ((reached p limit) .picks) (reportOf p limit)) .answer)
-        × (out ≡ (written limit store output ((reached p limit) .picks) (reportOf p limit)) .output)
+        → (answer ≡ (written (cleared store) output ((reached p limit) .picks) (reportOf p limit)) .answer)
+        × (out ≡ (written (cleared store) output ((reached p limit) .picks) (reportOf p limit)) .output)
         → record { answer = answer; store = left; output = out } ≡ played limit store output (reading text)
     unfolding played
     played-accepted p answer out e (a, b) =

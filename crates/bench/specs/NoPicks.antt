@@ -12,9 +12,10 @@ use Rattle.machine.specs.State.{start}
 use Rattle.machine.specs.Step.{finished, after}
 use Rattle.report.specs.Report.{outcomeFields, outcomeLine, taskLines, lockLine, report}
 use Rattle.orders.specs.Reached.{setupOf, reached}
-use Rattle.bench.specs.declared.Answer.the-variants.{Reports}
-use Rattle.bench.specs.Answer.{Outcome, storeSize, cleared, run}
-use Rattle.bench.specs.Written.{written-whole}
+use Rattle.play.specs.declared.Answer.the-variants.{Reports}
+use Rattle.play.specs.Outcome.{Outcome}
+use Rattle.play.specs.Written.{written-whole}
+use Rattle.bench.specs.Answer.{storeSize, cleared, run}
 use Rattle.bench.specs.OwnAnswer.{Begins, answers}
 
 -- the report of a plan of which no pick has been taken
@@ -35,7 +36,7 @@ abbrev pub reportsStart : ℕ → List ℕ → List ℕ → Plan → Outcome
 reportsStart limit store output p =
     record {
       answer = Reports 0 (length (startReport p));
-      store = cleared limit store output;
+      store = cleared store;
       output = startReport p ++ drop (length (startReport p)) output;
     }
 
@@ -45,7 +46,7 @@ module _ (text : List ℕ) (p : Plan) (e : reading text ≡ accepted p) (store o
   unfolding start after
   none-taken limit q =
       let reached-start : reached p limit ≡ start (setupOf p) = ap (after (setupOf p)) q in
-      answers text p e limit store output room ∙ rw reached-start (written-whole limit store output 0 (startReport p) long)
+      answers text p e limit store output room ∙ rw reached-start (written-whole (cleared store) output 0 (startReport p) long)
 
   pub no-orders : (limit : ℕ) → p .orders ≡ [] → run limit store output text ≡ reportsStart limit store output p
   unfolding picksOfAll

@@ -15,11 +15,12 @@ use Rattle.plan.specs.Orders.{picksUpTo}
 use Rattle.machine.specs.Step.{finished}
 use Rattle.machine.specs.Figures.{finishingFigure}
 use Rattle.report.specs.Report.{outcomeLine, taskLines, lockLine, report}
-use Rattle.bench.specs.declared.Answer.the-variants.{Reports}
 use Rattle.orders.specs.Reached.{setupOf, reached}
 use Rattle.orders.specs.AcceptedRuns.{own-finish}
-use Rattle.bench.specs.Answer.{reportOf, storeSize, written, played, run}
-use Rattle.bench.specs.Written.{written-whole}
+use Rattle.play.specs.declared.Answer.the-variants.{Reports}
+use Rattle.play.specs.Outcome.{reportOf, written}
+use Rattle.play.specs.Written.{written-whole}
+use Rattle.bench.specs.Answer.{storeSize, cleared, played, run}
 
 -- no accepted text is too long
 not-too-long : (text : List ℕ) (p : Plan) → reading text ≡ accepted p → isTooLong text ≡ false
@@ -56,7 +57,7 @@ outcome-finished p limit e = rw e refl
 module _ (text : List ℕ) (p : Plan) (e : reading text ≡ accepted p) (limit : ℕ) (store output : List ℕ)
     (room : storeSize ≤ length store) where
   -- the report of the state that the plan's own picks reach, where the output is long enough for it, and else a refusal
-  pub answers : run limit store output text ≡ written limit store output ((reached p limit) .picks) (reportOf p limit)
+  pub answers : run limit store output text ≡ written (cleared store) output ((reached p limit) .picks) (reportOf p limit)
   unfolding run played
   answers = rw (run, not-too-long text p e, le-ltb (length store) storeSize room, e, played)
 
@@ -65,7 +66,7 @@ module _ (text : List ℕ) (p : Plan) (e : reading text ≡ accepted p) (limit :
     pub own-answer : ((run limit store output text) .answer ≡ Reports ((reached p limit) .picks) (length (reportOf p limit)))
         × Begins (reportOf p limit) ((run limit store output text) .output)
     own-answer =
-        let w = answers ∙ written-whole limit store output ((reached p limit) .picks) (reportOf p limit) long in
+        let w = answers ∙ written-whole (cleared store) output ((reached p limit) .picks) (reportOf p limit) long in
         (ap (λ o. o .answer) w, (drop (length (reportOf p limit)) output, ap (λ o. o .output) w))
 
     -- if every B picks in a row include each worker, and there are as many as the finishing figure, the output begins with the line

@@ -8,9 +8,10 @@ use lib.Dec.{ltb}
 use Rattle.plan.specs.Reading.{Reading, accepted, refused, reading, isTooLong}
 use Rattle.reader.specs.Verdict.{Told, toldRefusal}
 use Rattle.orders.specs.Reached.{reached}
-use Rattle.bench.specs.declared.Answer.{Answer}
-use Rattle.bench.specs.declared.Answer.the-variants.{Reports, Refuses}
-use Rattle.bench.specs.Answer.{Outcome, reportOf, storeSize, written, played, run}
+use Rattle.play.specs.declared.Answer.{Answer}
+use Rattle.play.specs.declared.Answer.the-variants.{Reports, Refuses}
+use Rattle.play.specs.Outcome.{Outcome, reportOf, written}
+use Rattle.bench.specs.Answer.{storeSize, cleared, played, run}
 
 -- 0, the picks taken and the report's length; or a refusal
 abbrev pub told : Answer → Told
@@ -34,12 +35,12 @@ module _ (limit : ℕ) (store output : List ℕ) where
   toldOf text = cond (isTooLong text) (callers 6) (cond (ltb (length store) storeSize) (callers 7) (toldPlayed (reading text)))
 
   -- that is what it answers
-  told-written : (picks : ℕ) (bs : List ℕ) → told (written limit store output picks bs .answer) ≡ toldReport picks (length bs)
+  told-written : (picks : ℕ) (bs : List ℕ) → told (written (cleared store) output picks bs .answer) ≡ toldReport picks (length bs)
   unfolding written
   told-written picks bs = go (ltb (length output) (length bs)) refl
     where
       go : (b : Bool) → ltb (length output) (length bs) ≡ b
-          → told (written limit store output picks bs .answer) ≡ toldReport picks (length bs)
+          → told (written (cleared store) output picks bs .answer) ≡ toldReport picks (length bs)
       go true e = rw (written, e) refl
       go false e = rw (written, e) refl
 

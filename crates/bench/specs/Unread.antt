@@ -7,18 +7,19 @@ use lib.ListN.{length}
 use lib.Dec.{ltb}
 use Rattle.plan.specs.Reading.{Reading, accepted, refused, reading, isTooLong}
 use Rattle.orders.specs.Reached.{reached}
-use Rattle.bench.specs.Answer.{Outcome, reportOf, storeSize, written, played, run}
+use Rattle.play.specs.Outcome.{Outcome, reportOf, written}
+use Rattle.bench.specs.Answer.{storeSize, cleared, played, run}
 
 abbrev Alike : Outcome → Outcome → Type 0
 Alike a b = (a .answer ≡ b .answer) × (a .output ≡ b .output)
 
 module _ (limit : ℕ) (store other output : List ℕ) where
-  written-alike : (picks : ℕ) (bs : List ℕ) → Alike (written limit store output picks bs) (written limit other output picks bs)
+  written-alike : (picks : ℕ) (bs : List ℕ) → Alike (written (cleared store) output picks bs) (written (cleared other) output picks bs)
   unfolding written
   written-alike picks bs = go (ltb (length output) (length bs)) refl
     where
       go : (b : Bool) → ltb (length output) (length bs) ≡ b
-          → Alike (written limit store output picks bs) (written limit other output picks bs)
+          → Alike (written (cleared store) output picks bs) (written (cleared other) output picks bs)
       go true e = (rw (written, e) refl, rw (written, e) refl)
       go false e = (rw (written, e) refl, rw (written, e) refl)
 

@@ -9,17 +9,10 @@ ghost use Rattle.reader.specs.Verdict.{told as toldCheck, toldOf as toldReading
 ghost use Rattle.bench.specs.Answer.{textSize, storeSize, check as checks, played, run as runs};
 ghost use Rattle.bench.specs.Told.{told, toldOf};
 use kept::layout;
+use play::Answer;
 use play::run_plan;
 use reader::Checked;
 use refusals::Refusal;
-
-mod play; // play.rt: a run of an accepted plan
-
-// What a run gives: the picks taken and the report's length, or a refusal and its line, which is 0 if it is not the plan's.
-pub enum Answer {
-    Reports { picks: u64, length: usize },
-    Refuses(Refusal, u64),
-}
 
 const TEXT_SIZE: usize = 65536;
 

@@ -1,8 +1,8 @@
 -- The answers of a check and of a run in numbers: 0 for what is accepted, else the paper's number of the refusal.
 use Rattle.reader.specs.declared.Checked.{Checked}
 use Rattle.reader.specs.declared.Checked.the-variants.{Accepted, Refused}
-use Rattle.bench.specs.declared.Answer.{Answer}
-use Rattle.bench.specs.declared.Answer.the-variants.{Reports, Refuses}
+use Rattle.play.specs.declared.Answer.{Answer}
+use Rattle.play.specs.declared.Answer.the-variants.{Reports, Refuses}
 use Rattle.refusals.specs.Number.{number}
 use Rattle.bench_c.specs.declared.CheckedC.{CheckedC}
 use Rattle.bench_c.specs.declared.RanC.{RanC}

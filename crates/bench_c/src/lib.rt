@@ -1,8 +1,8 @@
 // The bench for Rust and C callers: its answers in numbers, as `specs/Numbers.antt` says. `include/salfunye.h` declares both functions.
 ghost use mathlib.Core.Path.{_≡_};
-ghost use Rattle.bench.specs.Answer.{Outcome, check, run};
+ghost use Rattle.bench.specs.Answer.{check, run};
 ghost use Rattle.bench_c.specs.Numbers.{checkedNumbers, ranNumbers};
-use bench::Answer;
+use play::Answer;
 use reader::Checked;
 use refusals::number_of;
 

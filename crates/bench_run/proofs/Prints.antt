@@ -15,11 +15,12 @@ use Rattle.plan.specs.Reading.{Reading, accepted, refused, isTooLong, reading}
 use Rattle.refusals.specs.Number.{number}
 use Rattle.text.specs.Writing.{fields, Wrote}
 use Rattle.refusals.specs.Line.{refusalFields}
-use Rattle.bench.specs.declared.Answer.{Answer}
-use Rattle.bench.specs.declared.Answer.the-variants.{Reports, Refuses}
+use Rattle.play.specs.declared.Answer.{Answer}
+use Rattle.play.specs.declared.Answer.the-variants.{Reports, Refuses}
 use Rattle.orders.specs.Reached.{reached}
 use Rattle.report.specs.Sizes.{longest}
-use Rattle.bench.specs.Answer.{storeSize, Outcome, reportOf, refusal, written, played, run, printedFor, printed}
+use Rattle.play.specs.Outcome.{Outcome, reportOf, refusal, written}
+use Rattle.bench.specs.Answer.{storeSize, cleared, played, run, printedFor, printed}
 use Rattle.bench_run.specs.Short.{accepted-short}
 
 abbrev noLimit : ℕ
@@ -34,7 +35,7 @@ abbrev Outputs : List ℕ → List ℕ → Outcome → Type 0
 Outputs bs output o = Prints bs output (o .answer) (o .output)
 
 module _ (store output text : List ℕ) where
-  run-long : isTooLong text ≡ true → run noLimit store output text ≡ refusal noLimit store output TextTooLong 0 store
+  run-long : isTooLong text ≡ true → run noLimit store output text ≡ refusal store output TextTooLong 0
   unfolding run
   run-long e = rw (e, run)
 
@@ -46,7 +47,7 @@ module _ (store output text : List ℕ) where
   unfolding reading
   reading-long e = rw (e, reading)
 
-  written-fits : (picks : ℕ) (bs : List ℕ) → length bs ≤ length output → Outputs bs output (written noLimit store output picks bs)
+  written-fits : (picks : ℕ) (bs : List ℕ) → length bs ≤ length output → Outputs bs output (written (cleared store) output picks bs)
   unfolding written
   written-fits picks bs h = rw (le-ltb (length output) (length bs) h, written) (refl, refl)
 

@@ -13,7 +13,7 @@ use Rattle.machine.specs.Safety.Owners.{owner-below}
 use Rattle.report.specs.Sizes.{longest, Small, report-short}
 use Rattle.orders.specs.Reached.{setupOf, reached}
 use Rattle.orders.specs.AcceptedRuns.{playable, own-picks, numbers-small}
-use Rattle.bench.specs.Answer.{reportOf}
+use Rattle.play.specs.Outcome.{reportOf}
 
 module _ (text : List ℕ) (p : Plan) (e : reading text ≡ accepted p) (limit : ℕ) where
   small : Small (setupOf p) (reached p limit)

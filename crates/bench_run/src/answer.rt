@@ -4,7 +4,7 @@ ghost use Prim.Native.Nat.{_≤_, _^_, _-_};
 ghost use lib.ListN.{length, take, drop};
 ghost use Rattle.report.specs.Sizes.{longest};
 ghost use Rattle.bench.specs.Answer.{storeSize, run, printed};
-use bench::Answer;
+use play::Answer;
 use refusals::put_refusal;
 
 const NO_LIMIT: u64 = 18446744073709551615;

@@ -102,7 +102,7 @@ fn module(first: u64, count: u64) -> String {
         "use Rattle.refusals.specs.declared.Refusal.the-variants.{{{}}}",
         REFUSALS.join(", ")
     );
-    out.push_str("use Rattle.bench.specs.Answer.{run, written, played}\nuse Rattle.bench.specs.declared.Answer.the-variants.{Reports, Refuses}\nuse Rattle.bench.specs.Computed.{computed}\n\n");
+    out.push_str("use Rattle.play.specs.declared.Answer.the-variants.{Reports, Refuses}\nuse Rattle.play.specs.Outcome.{written}\nuse Rattle.bench.specs.Answer.{run, played}\nuse Rattle.bench.specs.Computed.{computed}\n\n");
     for seed in first..first + count {
         out.push_str(&theorem(seed));
     }
@@ -132,7 +132,7 @@ fn lay_out(root: &Path, text: &str) -> std::io::Result<PathBuf> {
     let listed = std::fs::read_to_string(root.join("crates.txt"))?;
     std::fs::write(
         room.join("crates.txt"),
-        format!("{listed}\ncompared: refusals bench\n"),
+        format!("{listed}\ncompared: refusals play bench\n"),
     )?;
     let compared = room.join("crates/compared");
     std::fs::create_dir_all(compared.join("src"))?;

@@ -81,7 +81,7 @@ returns-2 c =
     played-accepted (args .limit) (args .store .now) (args .output .now) (args .text .now) _
     (cleared-again (args .store .now) _ (playing .run-plan .last .1 .1 .1 .1 .1 .0) _
     (start .pre .2) (clear .clear .ensures) (ran .1) (c .before .before .clear2 .ensures))
-    p _ _ e (ran .0 p (args .store .now) e loaded)
+    p _ _ e (ran .0 p _ e loaded)
 
 pub run-with-spec : {M : Type 1} → statement M
 run-with-spec =

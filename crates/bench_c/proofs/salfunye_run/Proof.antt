@@ -1,7 +1,7 @@
 -- `bench_c::salfunye_run` meets its contract: by the two answers.
 -- Assumes nothing.
 use mathlib.Core.Path.{_≡_, sym, ap, _∙_}
-use Rattle.bench.specs.Answer.{Outcome}
+use Rattle.play.specs.Outcome.{Outcome}
 use Rattle.bench_c.specs.Numbers.{ranNumbers}
 use borrow.Author.Needs.{needs}
 use Rattle.bench_c.proofs.salfunye_run.Statement.{statement}

@@ -1,13 +1,13 @@
--- `play::answer_of` meets its contract.
+-- `answer_of` meets its contract.
 use Prim.Native.Nat.{_≤_}
 use native.Mathlib.Omega.{arith}
 use lib.ListN.{length}
 use borrow.Author.Needs.{needs}
 use Rattle.text.specs.WritingLaws.{told-length, wrote-whole, counted}
 use Rattle.report.specs.Report.{report}
-use Rattle.bench.proofs.Answering.{shown, few-tasks, too-short, long-enough}
-use Rattle.bench.proofs.play.answer_of.Statement.{statement}
-use Rattle.bench.proofs.play.answer_of.Tie as tie
+use Rattle.play.proofs.Answering.{shown, few-tasks, too-short, long-enough}
+use Rattle.play.proofs.answer_of.Statement.{statement}
+use Rattle.play.proofs.answer_of.Tie as tie
 
 summary-of-requires : tie.Need-summary-of-requires
 summary-of-requires c κs =
@@ -37,7 +37,7 @@ same-length : tie.Need-same-length
 same-length c = search needs
 
 returns : tie.Need-returns
-returns c m d s limit left labels holds =
+returns c m d s left labels holds =
     let first = c .before .before .before in
     let sum = first .before .before .summary-of in
     let args = first .before .before .before .before .before .before .before .before .args in
@@ -47,7 +47,7 @@ returns c m d s limit left labels holds =
     rw (counted _ put)
     (too-short (args .n) (args .store .now) (sum .result) (sum .ensures) m d s
     (args .rows .now) (args .text .now) (args .labels .now) labels holds
-    limit left (args .output .now)
+    left (args .output .now)
     (omega (arith, told-length put, rw (counted _ put) at (c .if1 .taken))))
 
 put-report-requires-2 : tie.Need-put-report-requires-2
@@ -66,7 +66,7 @@ same-length-2 : tie.Need-same-length-2
 same-length-2 c = search needs
 
 returns-2 : tie.Need-returns-2
-returns-2 c m d s limit left labels holds =
+returns-2 c m d s left labels holds =
     let second = c .before .before in
     let first = second .before .before .before .before .before in
     let sum = first .before .before .summary-of in
@@ -80,7 +80,7 @@ returns-2 c m d s limit left labels holds =
     let whole = wrote-whole (rw (counted _ put) at (second .put-report2 .ensures d s is)) enough in
     let told = long-enough (args .n) (args .store .now) (sum .result) (sum .ensures) m d s
     (args .rows .now) (args .text .now) (args .labels .now) labels holds
-    limit left (args .output .now) _ _ enough size whole in
+    left (args .output .now) _ _ enough size whole in
     told
 
 pub answer-of-spec : {M : Type 1} → statement M

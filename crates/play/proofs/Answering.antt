@@ -17,9 +17,9 @@ use Rattle.steps.specs.Memory.{share, Memory, withCounts, withTasks, Holds}
 use Rattle.report.specs.declared.Summary.{Summary}
 use Rattle.report.specs.Report.{report}
 use Rattle.report.specs.Shown.{Shown}
-use Rattle.bench.specs.declared.Answer.the-variants.{Reports, Refuses}
-use Rattle.bench.specs.Answer.{written}
-use Rattle.bench.specs.Written.{written-short, written-whole}
+use Rattle.play.specs.declared.Answer.the-variants.{Reports, Refuses}
+use Rattle.play.specs.Outcome.{written}
+use Rattle.play.specs.Written.{written-short, written-whole}
 
 -- what a summary says by the numbers of a run and by the store
 abbrev pub Summed : Counts → List ℕ → Summary → Type 0
@@ -52,18 +52,18 @@ module _ (n : Counts) (store : List ℕ) (r : Summary) (summed : Summed n store 
     pub few-tasks : Sized c → r .tasks ≤ layout.mostTasks
     few-tasks sized = omega (arith, tasks-counted, sized .tasks)
 
-    module _ (limit : ℕ) (left output : List ℕ) where
+    module _ (left output : List ℕ) where
       pub too-short : length output < length (report c s)
-          → (Refuses OutputTooShort 0 ≡ (written limit left output (s .picks) (report c s)) .answer)
-          × (output ≡ (written limit left output (s .picks) (report c s)) .output)
+          → (Refuses OutputTooShort 0 ≡ (written left output (s .picks) (report c s)) .answer)
+          × (output ≡ (written left output (s .picks) (report c s)) .output)
       too-short l =
-          let e = sym (written-short limit left output (s .picks) (report c s) l) in
+          let e = sym (written-short left output (s .picks) (report c s) l) in
           (ap (λ o. o .answer) e, ap (λ o. o .output) e)
 
       pub long-enough : (size : ℕ) (next : List ℕ) → length (report c s) ≤ length output → size ≡ length (report c s)
           → next ≡ report c s ++ drop (length (report c s)) output
-          → (Reports (n .picks) size ≡ (written limit left output (s .picks) (report c s)) .answer)
-          × (next ≡ (written limit left output (s .picks) (report c s)) .output)
+          → (Reports (n .picks) size ≡ (written left output (s .picks) (report c s)) .answer)
+          × (next ≡ (written left output (s .picks) (report c s)) .output)
       long-enough size next l f g =
-          let e = sym (written-whole limit left output (s .picks) (report c s) l) in
+          let e = sym (written-whole left output (s .picks) (report c s) l) in
           (ap (λ k. Reports k size) (holds .picks) ∙ ap (Reports (s .picks)) f ∙ ap (λ o. o .answer) e, g ∙ ap (λ o. o .output) e)

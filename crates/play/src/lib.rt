@@ -1,4 +1,5 @@
-// A run of an accepted plan: it is laid into arrays, its order lines are played, and its report is written.
+// A run of an accepted plan: it is laid into arrays, its order lines are played, and its report is written. `specs/Loaded.antt` says how
+// the plan was kept, `specs/Outcome.antt` what its run writes.
 ghost use mathlib.Core.Path.{_≡_};
 ghost use mathlib.Core.List.{List};
 ghost use Prim.Native.Nat.{ℕ, _≤_};
@@ -17,9 +18,8 @@ ghost use Rattle.steps.specs.Memory.{share, Memory, withCounts, withTasks, Hold
 ghost use Rattle.scheduler.specs.Lent.{memory};
 ghost use Rattle.report.specs.Report.{report};
 ghost use Rattle.orders.specs.Reached.{setupOf, reached};
-ghost use Rattle.bench.specs.Answer.{reportOf, written};
-ghost use Rattle.bench.specs.Loaded.{Loaded, LoadedTasks};
-use super::Answer;
+ghost use Rattle.play.specs.Outcome.{reportOf, written};
+ghost use Rattle.play.specs.Loaded.{Loaded, LoadedTasks};
 use memory::layout;
 use orders::play_orders;
 use reader::ReadPlan;
@@ -33,6 +33,12 @@ use steps::Counts;
 use steps::layout::READY;
 use steps::layout::SLOTS;
 use tables::lay_out;
+
+// What a run gives: the picks taken and the report's length, or a refusal and its line, which is 0 if it is not the plan's.
+pub enum Answer {
+    Reports { picks: u64, length: usize },
+    Refuses(Refusal, u64),
+}
 
 // What the report says of a run besides its tasks.
 fn summary_of(n: Counts, store: &[u64]) -> Summary
@@ -66,11 +72,11 @@ fn answer_of(
     requires { ⌜ (sharesSize ≤ length (now store)) × (length (now rows) ≡ layout.taskRows) × (length (now labels) ≡ layout.labelRows) ⌝ }
     requires { ⌜ ((m : Memory) × (c : Setup) × (s : State) × Sized c × Labels (c .tasks) (now text) (now labels)
         × Holds c (withTasks m n (now rows) (m .accesses)) (share (now store)) s) ⌝ }
-    ensures { λ r. ⌜ ((m : Memory) (c : Setup) (s : State) (limit : ℕ) (left : List ℕ) →
+    ensures { λ r. ⌜ ((m : Memory) (c : Setup) (s : State) (left : List ℕ) →
         Labels (c .tasks) (now (text .entry)) (now (labels .entry)) →
         Holds c (withTasks m n (now (rows .entry)) (m .accesses)) (share (now (store .entry))) s →
-        (r ≡ (written limit left (now (output .entry)) (s .picks) (report c s)) .answer)
-        × (now (output .exit) ≡ (written limit left (now (output .entry)) (s .picks) (report c s)) .output)) ⌝ }
+        (r ≡ (written left (now (output .entry)) (s .picks) (report c s)) .answer)
+        × (now (output .exit) ≡ (written left (now (output .entry)) (s .picks) (report c s)) .output)) ⌝ }
 {
     let summary = summary_of(n, store);
     // written into no bytes, it is only counted
@@ -138,8 +144,8 @@ fn run_in(
     requires { ⌜ ((p : Plan) × (reading (now text) ≡ accepted p) × Loaded (now text) (now plan) (now lines) read p) ⌝ }
     ensures answer { λ r. ⌜ ((p : Plan) (left : List ℕ) → reading (now (text .entry)) ≡ accepted p →
         Loaded (now (text .entry)) (now (plan .entry)) (now (lines .entry)) read p →
-        (r ≡ (written limit left (now (output .entry)) (reached p limit .picks) (reportOf p limit)) .answer)
-        × (now (output .exit) ≡ (written limit left (now (output .entry)) (reached p limit .picks) (reportOf p limit)) .output)) ⌝ }
+        (r ≡ (written left (now (output .entry)) (reached p limit .picks) (reportOf p limit)) .answer)
+        × (now (output .exit) ≡ (written left (now (output .entry)) (reached p limit .picks) (reportOf p limit)) .output)) ⌝ }
     ensures later { λ _. ⌜ drop sharesSize (now (store .exit)) ≡ drop sharesSize (now (store .entry)) ⌝ }
 {
     let begin = set_up(
@@ -172,7 +178,7 @@ fn run_in(
 }
 
 // Runs a plan that was read, from a store whose shares are all 0.
-pub(crate) fn run_plan(
+pub fn run_plan(
     text: &[u8],
     plan: &[u64],
     lines: &[u64],
@@ -185,8 +191,8 @@ pub(crate) fn run_plan(
     requires { ⌜ ((p : Plan) × (reading (now text) ≡ accepted p) × Loaded (now text) (now plan) (now lines) read p) ⌝ }
     ensures answer { λ r. ⌜ ((p : Plan) (left : List ℕ) → reading (now (text .entry)) ≡ accepted p →
         Loaded (now (text .entry)) (now (plan .entry)) (now (lines .entry)) read p →
-        (r ≡ (written limit left (now (output .entry)) (reached p limit .picks) (reportOf p limit)) .answer)
-        × (now (output .exit) ≡ (written limit left (now (output .entry)) (reached p limit .picks) (reportOf p limit)) .output)) ⌝ }
+        (r ≡ (written left (now (output .entry)) (reached p limit .picks) (reportOf p limit)) .answer)
+        × (now (output .exit) ≡ (written left (now (output .entry)) (reached p limit .picks) (reportOf p limit)) .output)) ⌝ }
     ensures later { λ _. ⌜ drop sharesSize (now (store .exit)) ≡ drop sharesSize (now (store .entry)) ⌝ }
 {
     let mut wait = [0u64; SLOTS as usize];

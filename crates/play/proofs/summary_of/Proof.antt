@@ -1,9 +1,9 @@
--- `play::summary_of` meets its contract.
+-- `summary_of` meets its contract.
 use mathlib.Core.Path.{refl}
 use borrow.Author.Needs.{needs}
 use Rattle.steps.specs.Memory.{share, withCounts}
-use Rattle.bench.proofs.play.summary_of.Statement.{statement}
-use Rattle.bench.proofs.play.summary_of.Tie as tie
+use Rattle.play.proofs.summary_of.Statement.{statement}
+use Rattle.play.proofs.summary_of.Tie as tie
 
 is-finished-requires : tie.Need-is-finished-requires
 is-finished-requires c κs = search needs

@@ -1,4 +1,4 @@
--- `play::run_in` meets its contract. The places on the way back: `end` is the call of play_orders, `laid` the call of set_up,
+-- `run_in` meets its contract. The places on the way back: `end` is the call of play_orders, `laid` the call of set_up,
 -- `start` the beginning; `answering`, `playing` and `laying` lie between them.
 use native.Mathlib.Omega.{arith}
 use mathlib.Core.Path.{_∙_}
@@ -7,8 +7,8 @@ use Rattle.orders.specs.Reached.{setupOf, reached}
 use Rattle.orders.specs.AcceptedRuns.{sized}
 use Rattle.scheduler.specs.Lent.{memory}
 use borrow.Author.Needs.{needs}
-use Rattle.bench.proofs.play.run_in.Statement.{statement}
-use Rattle.bench.proofs.play.run_in.Tie as tie
+use Rattle.play.proofs.run_in.Statement.{statement}
+use Rattle.play.proofs.run_in.Tie as tie
 
 set-up-requires : tie.Need-set-up-requires
 set-up-requires c κs =
@@ -145,7 +145,7 @@ returns c =
           let made = laid .set-up .ensures _ p _ _ e (says .tasks) (start .pre .0 .0) (start .pre .0 .1) in
           let held = end .play-orders .ensures .0 _ p e (says .count) (says .orders) (made .0) in
           let m = memory (end .play-orders .result) _ _ _ _ _ [] _ in
-          c .before .before .answer-of .ensures m (setupOf p) (reached p (start .args .limit)) _ left (made .1) held,
+          c .before .before .answer-of .ensures m (setupOf p) (reached p (start .args .limit)) left (made .1) held,
       end .play-orders .ensures .1,
     )
 

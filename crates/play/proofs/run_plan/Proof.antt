@@ -1,8 +1,8 @@
--- `play::run_plan` meets its contract.
+-- `run_plan` meets its contract.
 use mathlib.Core.Path.{refl}
 use borrow.Author.Needs.{needs}
-use Rattle.bench.proofs.play.run_plan.Statement.{statement}
-use Rattle.bench.proofs.play.run_plan.Tie as tie
+use Rattle.play.proofs.run_plan.Statement.{statement}
+use Rattle.play.proofs.run_plan.Tie as tie
 
 slice-aggregate-run-in : tie.Need-slice-aggregate-run-in
 slice-aggregate-run-in c = search needs

@@ -1,10 +1,10 @@
--- `play::set_up` meets its contract.
+-- `set_up` meets its contract.
 use Rattle.plan.specs.Accepted.{accepted-well-formed}
 use Rattle.scheduler.specs.Starting.{starts}
 use Rattle.orders.specs.Reached.{setupOf}
 use borrow.Author.Needs.{needs}
-use Rattle.bench.proofs.play.set_up.Statement.{statement}
-use Rattle.bench.proofs.play.set_up.Tie as tie
+use Rattle.play.proofs.set_up.Statement.{statement}
+use Rattle.play.proofs.set_up.Tie as tie
 
 lay-out-requires : tie.Need-lay-out-requires
 lay-out-requires c κs = search needs
