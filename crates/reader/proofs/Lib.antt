@@ -1,5 +1,1 @@
-pub mod Touches
 pub mod Turns
-pub mod Wholes
-pub mod Heads
-pub mod Letters

@@ -27,21 +27,22 @@ use Rattle.kept.specs.Tasks.{Placed, rowOf, rowsOf, Labelled, KeepsTasks}
 use Rattle.kept.specs.TaskLaws.{no-tasks, task-kept}
 use Rattle.kept.specs.Orders.{codeOf, seedOf, orderNumbers, KeepsOrders}
 use Rattle.kept.specs.OrderLaws.{no-orders, order-kept}
-use Rattle.reader.specs.declared.accesses.Accesses.{Accesses}
-use Rattle.reader.specs.declared.line.Fault.the-variants.{Nothing, Is}
-use Rattle.reader.specs.declared.line.Kind.{Kind}
-use Rattle.reader.specs.declared.line.Kind.the-variants as kinds
-use Rattle.reader.specs.declared.line.Line.{Line}
-use Rattle.reader.specs.declared.line.Sofar.{Sofar}
-use Rattle.reader.specs.Accesses.{withAccesses, Reads}
-use Rattle.reader.specs.Lines.{Sums, faultOf, faultIn, Formless, Makes, IsWhole, Formed, Whole, malformed, formed}
-use Rattle.reader.specs.Lines.{bare, headFault, LineAt, whole, task}
-use Rattle.reader.specs.Keeping.{faultBy, judged, Keeps}
+use Rattle.lines.specs.declared.accesses.Accesses.{Accesses}
+use Rattle.lines.specs.declared.line.Fault.the-variants.{Nothing, Is}
+use Rattle.lines.specs.declared.line.Kind.{Kind}
+use Rattle.lines.specs.declared.line.Kind.the-variants as kinds
+use Rattle.lines.specs.declared.line.Line.{Line}
+use Rattle.lines.specs.declared.line.Sofar.{Sofar}
+use Rattle.lines.specs.Accesses.{withAccesses, Reads}
+use Rattle.lines.specs.Lines.{Sums, faultOf, faultIn, Formless, Makes, IsWhole, Formed, Whole, malformed, formed}
+use Rattle.lines.specs.Lines.{bare, headFault, LineAt, whole, task}
+use Rattle.lines.specs.Judging.{faultBy, judged}
+use Rattle.reader.specs.Keeping.{Keeps}
 use Rattle.reader.specs.declared.Checked.the-variants.{Accepted}
 use Rattle.reader.specs.declared.ReadPlan.{ReadPlan}
 use Rattle.reader.specs.Verdict.{verdict, noPlan, Lent, Gives}
-use Rattle.reader.proofs.Wholes.{formless-next}
-use Rattle.reader.proofs.Touches.{seen, task-fault, task-room, task-few, task-row}
+use Rattle.lines.proofs.Wholes.{formless-next}
+use Rattle.lines.proofs.Touches.{seen, task-fault, task-room, task-few, task-row}
 
 -- ---- a text from a line on, by that line
 

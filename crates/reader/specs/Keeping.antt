@@ -1,26 +1,14 @@
--- The code's view of a line that has ended: its fault, and what is kept of it.
+-- The code's view of a line without fault: what is kept of it.
 use Prim.Native.Nat.{ℕ, _+_, _*_}
 use mathlib.Core.Path.{_≡_}
 use mathlib.Core.List.{List, [], _∷_}
 use lib.Seq.{sets}
 use Rattle.kept.specs.Layout as layout
-use Rattle.reader.specs.declared.accesses.Accesses.{Accesses}
-use Rattle.reader.specs.declared.line.Fault.{Fault}
-use Rattle.reader.specs.declared.line.Kind.{Kind}
-use Rattle.reader.specs.declared.line.Kind.the-variants as kinds
-use Rattle.reader.specs.declared.line.Line.{Line}
-use Rattle.reader.specs.declared.line.Sofar.{Sofar}
-use Rattle.reader.specs.Accesses.{taskFault}
+use Rattle.lines.specs.declared.line.Kind.{Kind}
+use Rattle.lines.specs.declared.line.Kind.the-variants as kinds
+use Rattle.lines.specs.declared.line.Line.{Line}
+use Rattle.lines.specs.declared.line.Sofar.{Sofar}
 use Rattle.reader.specs.Verdict.{Lent}
-
--- the fault of a line, by its kind: a task's is task number n
-abbrev pub faultBy : Kind → Fault → Accesses → ℕ → Fault
-faultBy kinds.Workers fault a n = fault
-faultBy kinds.Task fault a n = taskFault fault a n
-faultBy kinds.Order fault a n = fault
-
-abbrev pub judged : Line → Accesses → ℕ → Fault
-judged line a n = faultBy (line .kind) (line .fault) a n
 
 -- the counts with one line more: a W line's number is the workers
 abbrev pub counting : Kind → ℕ → Sofar → Sofar

@@ -1,4 +1,2 @@
-pub mod Lines
-pub mod Accesses
 pub mod Verdict
 pub mod Keeping

@@ -5,28 +5,24 @@ ghost use lib.ListN.{length};
 ghost use Rattle.plan.specs.Plan.{emptyPlan};
 ghost use Rattle.plan.specs.Reading.{reading};
 ghost use Rattle.kept.specs.Layout as lay;
-ghost use Rattle.reader.specs.Keeping.{judged, Keeps};
-ghost use Rattle.reader.specs.Lines.{Sums};
+ghost use Rattle.lines.specs.Lines.{Sums};
+ghost use Rattle.reader.specs.Keeping.{Keeps};
 ghost use Rattle.reader.specs.Verdict.{verdict, told, toldOf, noPlan, lent, Gives};
-use accesses::Accesses;
-use accesses::judge_task;
-use accesses::no_accesses;
-use accesses::with_access;
 use kept::layout;
 use kept::orders::OrderRow;
 use kept::orders::keep_order;
 use kept::tasks::keep_task;
-use line::Fault;
-use line::Kind;
-use line::Line;
-use line::Sofar;
-use line::read_line;
+use lines::accesses::no_accesses;
+use lines::accesses::with_access;
+use lines::judge;
+use lines::line::Fault;
+use lines::line::Kind;
+use lines::line::Line;
+use lines::line::Sofar;
+use lines::line::read_line;
 use plan::field::Access;
 use plan::field::read_access;
 use refusals::Refusal;
-
-mod accesses; // accesses.rt: the accesses of a task's line
-mod line; // line.rt: one line
 
 // What checking a text gives: a refusal has the line's number, from 1, or 0 if it is not the plan's.
 pub enum Checked {
@@ -62,19 +58,6 @@ fn no_lines() -> Sofar
         workers: 0,
         tasks: 0,
         orders: 0,
-    }
-}
-
-// The fault of a line.
-fn judge(line: Line, a: Accesses, tasks: usize) -> Fault
-    ensures { λ r. ⌜ r ≡ judged line a tasks ⌝ }
-{
-    let kind = line.kind;
-    let fault = line.fault;
-    match kind {
-        Kind::Workers => fault,
-        Kind::Task => judge_task(fault, a, tasks),
-        Kind::Order => fault,
     }
 }
 

@@ -14,7 +14,7 @@ use Rattle.plan.specs.Reading.{refused}
 use Rattle.kept.specs.Layout.{taskRow}
 use Rattle.kept.specs.OrderLaws.{orders-length}
 use Rattle.kept.specs.TaskLaws.{tasks-length}
-use Rattle.reader.specs.declared.line.Fault.the-variants.{Nothing, Is}
+use Rattle.lines.specs.declared.line.Fault.the-variants.{Nothing, Is}
 use Rattle.reader.specs.Verdict.{lent}
 use Rattle.reader.proofs.Turns.{comes, comes-formless, InLine, found, line-inside, access-next, access-read, access-wrong}
 use Rattle.reader.proofs.Turns.{line-refused, AtLine, text-begins, in-hand, line-kept}

@@ -1,0 +1,4 @@
+pub mod Wholes
+pub mod Touches
+pub mod Heads
+pub mod Letters

@@ -1,0 +1,317 @@
+-- Lines that are read whole: what was read of their numbers says which fields they have, and how they are judged. Assumes nothing.
+use Prim.Native.Nat.{ℕ, _+_, _*_, _^_, _≤_, _<_}
+use mathlib.Core.Path.{_≡_, refl, sym, ap, _∙_}
+use mathlib.Core.Bool.{Bool, true, false, not, _&&_, _||_, Bool·not-not}
+use mathlib.Core.List.{List, [], _∷_, _++_, append-assoc, append-nil}
+use mathlib.Core.Option.{Option, none, some}
+use native.Mathlib.Omega.{arith}
+use lib.Dec.{eqb, leb, ltb}
+use lib.ListN.{length, drop}
+use borrow.Author.Tests.{le-leb, lt-leb, le-ltb, lt-ltb, leb-true, leb-false, ltb-true, ltb-false, not-false}
+use Rattle.refusals.specs.declared.Refusal.the-variants.{OutOfRange, Misplaced}
+use Rattle.text.specs.declared.read.Number.{Number}
+use Rattle.text.specs.declared.read.Number.the-variants as numbers
+use Rattle.text.specs.Text.{within, numberOf}
+use Rattle.runs.specs.Tests.{ways, both-left, both-right, not-both}
+use Rattle.runs.specs.Update.{clash}
+use Rattle.text.specs.Fields.{Cut, endless, cut, fieldOf, answer, asNumber, numberBy, clipped, fitsIn}
+use Rattle.text.specs.Fields.{First, unended, first, behind, firstLine, Fields}
+use Rattle.text.specs.FieldLaws.{fields-none, fields-more, fields-endless}
+use Rattle.plan.specs.Plan.{Order, picks, rounds, seeded, Plan}
+use Rattle.plan.specs.Line as plans
+use Rattle.plan.specs.Line.{ask, atStart, workersLine, orderLine, picksLine, roundsLine, seededLine, oneNumber, withBoth, twoNumbers}
+use Rattle.plan.specs.Reading.{firstRefusal}
+use Rattle.kept.specs.Layout as layout
+use Rattle.kept.specs.Orders.{codeOf, seedOf}
+use Rattle.lines.specs.declared.line.Fault.{Fault}
+use Rattle.lines.specs.declared.line.Fault.the-variants.{Nothing}
+use Rattle.lines.specs.declared.line.Kind.the-variants as kinds
+use Rattle.lines.specs.declared.line.Sofar.{Sofar}
+use Rattle.lines.specs.declared.line.Line.{Line}
+use Rattle.lines.specs.Lines.{Sums, faultOf, faultIn, firstFault, wrongLine}
+use Rattle.lines.specs.Lines.{Formless, Makes, IsWhole, Whole, malformed, formed, Ordered}
+
+-- ---- fields after which a line is of no form, whatever follows
+
+module _ (form : List (List ℕ) → Option plans.Line) (text : List ℕ) (at : ℕ) where
+  none-behind : (fs : List (List ℕ)) (l : First) → ((gs : List (List ℕ)) → form (fs ++ gs) ≡ none) → Formless form (behind fs l)
+  none-behind fs unended h = tt
+  none-behind fs (first gs rest) h = h gs
+
+  pub formless : {fs : List (List ℕ)} {next : ℕ} (more : Bool) → Fields text at fs next more
+      → ((gs : List (List ℕ)) → form (fs ++ gs) ≡ none) → Formless form (firstLine (drop at text))
+  formless {fs} {next} true so h = rw (so .line) (none-behind fs (firstLine (drop next text)) h)
+  formless {fs} false so h = rw (so .line) (rw append-nil at (h []))
+
+  -- the next field is of no form
+  pub formless-next : {fs : List (List ℕ)} {next : ℕ} → Fields text at fs next true
+      → ((x : List ℕ) (more : Bool) (rest : List ℕ) → fieldOf (drop next text) ≡ cut x more rest
+      → (gs : List (List ℕ)) → form (fs ++ x ∷ gs) ≡ none)
+      → Formless form (firstLine (drop at text))
+  formless-next {fs} {next} so h = by (fieldOf (drop next text)) refl
+    where
+      by : (k : Cut) → fieldOf (drop next text) ≡ k → Formless form (firstLine (drop at text))
+      by endless e = rw (fields-endless so e) tt
+      by (cut x more rest) e = formless more (fields-more so x more rest e) (λ gs. rw append-assoc (h x more rest e gs))
+
+-- ---- a number that was read after fields of a line
+
+-- the number, and the fields with its own
+pub record Told (text : List ℕ) (at : ℕ) (fs : List (List ℕ)) (value : ℕ) (fits : Bool) (next : ℕ) (more : Bool) : Type 0 where
+  pub digits : List ℕ
+  pub number : ℕ
+  pub says : numberOf digits ≡ some number
+  pub held : value ≡ clipped number
+  pub whole : fits ≡ fitsIn number
+  pub fields : Fields text at (fs ++ digits ∷ []) next more
+
+module _ {text : List ℕ} {at : ℕ} {fs : List (List ℕ)} {then : ℕ} (so : Fields text at fs then true) (n : Number)
+    (e : n ≡ asNumber then (fieldOf (drop then text))) where
+  pub number-told : {value : ℕ} {fits : Bool} {next : ℕ} {m more : Bool} → n ≡ numbers.Is value fits next m → m ≡ more
+      → Told text at fs value fits next more
+  unfolding answer
+  number-told {value} {fits} {next} {m} {more} is goes-on = by (fieldOf (drop then text)) refl (cc)
+    where
+      says : (x : List ℕ) (y : Bool) (rest : List ℕ) → fieldOf (drop then text) ≡ cut x y rest → (v : Option ℕ) → numberOf x ≡ v
+          → numbers.Is value fits next more ≡ numberBy v (then + (length x + 1)) y → Told text at fs value fits next more
+      says x y rest q none o e = clash (cc)
+      says x y rest q (some v) o e =
+          let ends : then + (length x + 1) ≡ next = cc in
+          let on : y ≡ more = cc in
+          record {
+            digits = x;
+            number = v;
+            says = o;
+            held = cc;
+            whole = cc;
+            fields = rw (ends, on) at (fields-more so x y rest q);
+          }
+
+      by : (k : Cut) → fieldOf (drop then text) ≡ k → numbers.Is value fits next more ≡ asNumber then k
+          → Told text at fs value fits next more
+      by endless q e = clash (cc)
+      by (cut x y rest) q e = says x y rest q (numberOf x) refl e
+
+  pub number-untold : n ≡ numbers.Malformed → (x : List ℕ) (more : Bool) (rest : List ℕ) → fieldOf (drop then text) ≡ cut x more rest
+      → numberOf x ≡ none
+  unfolding answer
+  number-untold is x more rest q = by (numberOf x) (rw q at (sym is ∙ e))
+    where
+      by : (v : Option ℕ) → numbers.Malformed ≡ numberBy v (then + (length x + 1)) more → v ≡ none
+      by none e = refl
+      by (some v) e = clash (cc)
+
+-- the first field of those that begin at a place
+pub first-told : (text : List ℕ) (at : ℕ) → at ≤ length text → (n : Number) → n ≡ asNumber at (fieldOf (drop at text))
+    → {value : ℕ} {fits : Bool} {next : ℕ} {m more : Bool} → n ≡ numbers.Is value fits next m → m ≡ more
+    → Told text at [] value fits next more
+first-told text at h = number-told (fields-none text at h)
+
+-- ---- the fields of one number, and of two
+
+module _ (make : ℕ → plans.Line) (x : List ℕ) where
+  one-none : numberOf x ≡ none → (gs : List (List ℕ)) → oneNumber make (x ∷ gs) ≡ none
+  one-none e [] = rw e
+  one-none e (g ∷ gs) = refl
+
+module _ (make : ℕ → ℕ → plans.Line) (x : List ℕ) where
+  two-none : numberOf x ≡ none → (gs : List (List ℕ)) → twoNumbers make (x ∷ gs) ≡ none
+  two-none e [] = refl
+  two-none e (y ∷ []) = rw e
+  two-none e (y ∷ g ∷ gs) = refl
+
+  no-second : (v : Option ℕ) → withBoth make v none ≡ none
+  no-second none = refl
+  no-second (some v) = refl
+
+  second-none : (y : List ℕ) → numberOf y ≡ none → (gs : List (List ℕ)) → twoNumbers make (x ∷ y ∷ gs) ≡ none
+  second-none y e [] = rw e (no-second (numberOf x))
+  second-none y e (g ∷ gs) = refl
+
+-- lines that are not of their form, by what was read of them
+module _ (text : List ℕ) (at : ℕ) (in-text : at ≤ length text) (p : Plan) {r : Line} (wrong : r ≡ wrongLine) where
+  so : Fields text at [] at true
+  so = fields-none text at in-text
+
+  module _ (make : ℕ → plans.Line) where
+    pub one-untold : (n : Number) → n ≡ asNumber at (fieldOf (drop at text)) → n ≡ numbers.Malformed → Whole text at p (oneNumber make) r
+    one-untold n e is =
+        malformed wrong
+        (formless-next (oneNumber make) text at so (λ x more rest q. one-none make x (number-untold so n e is x more rest q)))
+
+    pub one-goes-on : {value : ℕ} {fits : Bool} {next : ℕ} → Told text at [] value fits next true → Whole text at p (oneNumber make) r
+    one-goes-on t = malformed wrong (formless-next (oneNumber make) text at (t .fields) (λ x more rest q gs. refl))
+
+  module _ (make : ℕ → ℕ → plans.Line) where
+    pub two-untold : (n : Number) → n ≡ asNumber at (fieldOf (drop at text)) → n ≡ numbers.Malformed → Whole text at p (twoNumbers make) r
+    two-untold n e is =
+        malformed wrong
+        (formless-next (twoNumbers make) text at so (λ x more rest q. two-none make x (number-untold so n e is x more rest q)))
+
+    pub two-ends : {value : ℕ} {fits : Bool} {next : ℕ} → Told text at [] value fits next false → Whole text at p (twoNumbers make) r
+    two-ends t = malformed wrong (rw (t .fields .line))
+
+    module _ {value : ℕ} {fits : Bool} {then : ℕ} (t : Told text at [] value fits then true) where
+      pub second-untold : (n : Number) → n ≡ asNumber then (fieldOf (drop then text)) → n ≡ numbers.Malformed
+          → Whole text at p (twoNumbers make) r
+      second-untold n e is =
+          malformed wrong
+          (formless-next (twoNumbers make) text at (t .fields)
+          (λ y more rest q. second-none make (t .digits) y (number-untold (t .fields) n e is y more rest q)))
+
+      pub two-goes-on : {v : ℕ} {f : Bool} {next : ℕ} → Told text at (t .digits ∷ []) v f next true → Whole text at p (twoNumbers make) r
+      two-goes-on u = malformed wrong (formless-next (twoNumbers make) text at (u .fields) (λ x more rest q gs. refl))
+
+-- ---- ranges of a number are those of what 64 bits hold of it
+
+pub above-below : (m n : ℕ) → ltb m n ≡ not (leb n m)
+above-below m n =
+    ways (leb n m) (λ e. simp (e, le-ltb m n (leb-true n m e))) (λ e. simp (e, lt-ltb m n (leb-false n m e)))
+
+module _ (m : ℕ) where
+  fits-clipped : fitsIn m ≡ true → clipped m ≡ m
+  fits-clipped e = simp e
+
+  pub low-clipped : m < 18446744073709551615 → clipped m ≡ m
+  low-clipped h = fits-clipped (lt-ltb m (2 ^ 64) (omega arith))
+
+  large : fitsIn m ≡ false → 18446744073709551616 ≤ m
+  large e = omega (arith, ltb-false m (2 ^ 64) e)
+
+  -- the code sees what 64 bits hold
+  out-of : (n high : ℕ) → n ≡ clipped m → high < 18446744073709551615 → not (within 1 high n) ≡ not (within 1 high m)
+  out-of n high is h =
+      rw is (ways (fitsIn m) (λ e. simp e) (λ e.
+      let big = large e in
+      simp (e, lt-leb 18446744073709551615 high h, lt-leb m high (omega arith), le-leb 1 m (omega arith))))
+
+  pub above-clipped : (n : ℕ) → n ≤ 18446744073709551615 → leb n (clipped m) ≡ not (ltb m n)
+  above-clipped n h =
+      ways (fitsIn m) (λ e. simp (e, above-below m n, Bool·not-not)) (λ e.
+      let big = large e in
+      simp (e, le-leb n 18446744073709551615 h, le-ltb m n (omega arith)))
+
+  pub within-low : (low high : ℕ) → high < 18446744073709551615 → within low high m ≡ true → (clipped m ≡ m) × (m ≤ high)
+  within-low low high h e =
+      let top : m ≤ high = leb-true m high (both-right (leb low m) (leb m high) e) in
+      (low-clipped (omega arith), top)
+
+pub bounded : (low high n : ℕ) {out : Bool} → out ≡ not (within low high n) → out ≡ false → n ≤ high
+bounded low high n e q = leb-true n high (both-right (leb low n) (leb n high) (not-false (within low high n) (sym e ∙ q)))
+
+-- ---- faults
+
+module _ (place range : Bool) where
+  -- the code tells what does not hold
+  pub fault-is : (misplaced out : Bool) → misplaced ≡ not place → out ≡ not range
+      → firstFault misplaced out ≡ faultOf (firstRefusal (ask place Misplaced ∷ ask range OutOfRange ∷ []))
+  fault-is misplaced out a b = rw (a, b) (simp Bool·not-not)
+
+  in-range : firstRefusal (ask place Misplaced ∷ ask range OutOfRange ∷ []) ≡ none → range ≡ true
+  unfolding firstRefusal
+  in-range e = ways range (λ h. h) (λ h. ways place (λ q. clash (cc (simp (q, h) at e))) (λ q. clash (cc (simp q at e))))
+
+pub no-fault : (misplaced out : Bool) (fault : Fault) → fault ≡ firstFault misplaced out → fault ≡ Nothing → out ≡ false
+unfolding firstRefusal
+no-fault misplaced false fault e q = refl
+no-fault true true fault e q = clash (cc)
+no-fault false true fault e q = clash (cc)
+
+-- ---- lines that are of their form
+
+-- the answer for a line that ends before `next`
+pub record Judged (p : Plan) (l : plans.Line) (next : ℕ) (r : Line) : Type 0 where
+  pub after : r .next ≡ next
+  pub ended : r .more ≡ false
+  pub whole : IsWhole (r .kind)
+  pub judged : r .fault ≡ faultIn l
+  pub makes : firstRefusal (l .asks) ≡ none → Makes (r .kind) (r .first) (r .second) p (l .plan)
+
+module _ {text : List ℕ} {at : ℕ} {p : Plan} {r : Line} where
+  so-formed : (form : List (List ℕ) → Option plans.Line) (l : plans.Line) (fs : List (List ℕ)) → form fs ≡ some l
+      → {next : ℕ} → Fields text at fs next false → Judged p l next r → Whole text at p form r
+  so-formed form l fs e fields j =
+      formed (record {
+        l = l;
+        fs = fs;
+        formed = e;
+        fields = rw (j .after) fields;
+        ended = j .ended;
+        whole = j .whole;
+        judged = j .judged;
+        makes = j .makes;
+      })
+
+  pub one-formed : (make : ℕ → plans.Line) {value : ℕ} {fits : Bool} {next : ℕ} (t : Told text at [] value fits next false)
+      → Judged p (make (t .number)) next r → Whole text at p (oneNumber make) r
+  one-formed make t = so-formed (oneNumber make) (make (t .number)) (t .digits ∷ []) (rw (t .says)) (t .fields)
+
+  pub two-formed : (make : ℕ → ℕ → plans.Line) {value : ℕ} {fits : Bool} {then : ℕ} (t : Told text at [] value fits then true)
+      {v : ℕ} {f : Bool} {next : ℕ} (u : Told text at (t .digits ∷ []) v f next false)
+      → Judged p (make (t .number) (u .number)) next r → Whole text at p (twoNumbers make) r
+  two-formed make t u =
+      so-formed (twoNumbers make) (make (t .number) (u .number)) (t .digits ∷ u .digits ∷ []) (rw (t .says, u .says)) (u .fields)
+
+module _ (s : Sofar) (p : Plan) (sums : Sums s p) (next : ℕ) where
+  -- the workers, as 64 bits hold them
+  pub workers-judged : (m n : ℕ) (out : Bool) (fault : Fault) → n ≡ clipped m → out ≡ not (within 1 32 n)
+      → fault ≡ firstFault (not (eqb (s .workers) 0)) out
+      → Judged p (workersLine p m) next (record { kind = kinds.Workers; first = n; second = 0; fault = fault; next = next; more = false })
+  workers-judged m n out fault is range e =
+      record {
+        after = refl;
+        ended = refl;
+        whole = tt;
+        judged =
+            e ∙ fault-is (atStart p) (within 1 32 m) (not (eqb (s .workers) 0)) out (rw (sums .workers))
+            (range ∙ out-of m n 32 is (omega arith));
+        makes = λ h.
+            let low = within-low m 1 32 (omega arith) (in-range (atStart p) (within 1 32 m) h) in
+            (rw (is, low .0), rw (is, low .0) (low .1));
+      }
+
+  -- an order line whose numbers are in range
+  module _ (out : Bool) {r : Line} {code seed : ℕ} (o : Ordered (firstFault (eqb (s .workers) 0) out) code seed next r) where
+    order-judged : (range : Bool) (order : Order) → out ≡ not range → (range ≡ true → (codeOf order ≡ code) × (seedOf order ≡ seed))
+        → Judged p (orderLine p range order) next r
+    order-judged range order is kept =
+        let fault : firstFault (eqb (s .workers) 0) out ≡ faultIn (orderLine p range order) =
+        fault-is (not (atStart p)) range (eqb (s .workers) 0) out (rw (sums .workers) (sym (Bool·not-not (atStart p)))) is in
+        record {
+          after = o .after;
+          ended = o .ended;
+          whole = rw (o .kind) tt;
+          judged = o .judged ∙ fault;
+          makes = λ h.
+              let tells = o .tells (fault ∙ ap faultOf h) in
+              let is-kept = kept (in-range (not (atStart p)) range h) in
+              rw (o .kind) (order, refl, is-kept .0 ∙ sym (tells .0), is-kept .1 ∙ sym (tells .1));
+        }
+
+  pub rounds-judged : (m n : ℕ) (out : Bool) {r : Line} → n ≡ clipped m → out ≡ not (within 1 1000000 n)
+      → Ordered (firstFault (eqb (s .workers) 0) out) (n * layout.who + layout.inTurn) 0 next r → Judged p (roundsLine p m) next r
+  rounds-judged m n out is range o =
+      order-judged out o (within 1 1000000 m) (rounds m) (range ∙ out-of m n 1000000 is (omega arith))
+      (λ h. let same : n ≡ m = is ∙ within-low m 1 1000000 (omega arith) h .0 in (rw same, refl))
+
+  pub picks-judged : s .workers ≤ 32 → (v w m n : ℕ) (above far out : Bool) {r : Line} → w ≡ clipped v → n ≡ clipped m
+      → above ≡ leb (s .workers) w → far ≡ not (within 1 4096 n) → out ≡ (above || far)
+      → Ordered (firstFault (eqb (s .workers) 0) out) (n * layout.who + w) 0 next r → Judged p (picksLine p v m) next r
+  picks-judged few v w m n above far out who is a f e o =
+      let high : above ≡ not (ltb v (p .workers)) = rw (a, who, ← sums .workers) (above-clipped v (s .workers) (omega arith)) in
+      order-judged out o (ltb v (p .workers) && within 1 4096 m) (picks v m)
+      (rw (e, high, f ∙ out-of m n 4096 is (omega arith)) (not-both (ltb v (p .workers)) (within 1 4096 m)))
+      (λ h.
+      let low : v < p .workers = ltb-true v (p .workers) (both-left (ltb v (p .workers)) (within 1 4096 m) h) in
+      let same : n ≡ m = is ∙ within-low m 1 4096 (omega arith) (both-right (ltb v (p .workers)) (within 1 4096 m) h) .0 in
+      (rw (same, who, low-clipped v (omega (arith, sums .workers))), refl))
+
+  pub seeded-judged : (v seed m n : ℕ) (fits far out : Bool) {r : Line} → seed ≡ clipped v → fits ≡ fitsIn v → n ≡ clipped m
+      → far ≡ not (within 1 1000000 n) → out ≡ (not fits || far)
+      → Ordered (firstFault (eqb (s .workers) 0) out) (n * layout.who + layout.bySeed) seed next r → Judged p (seededLine p v m) next r
+  seeded-judged v seed m n fits far out holds fit is f e o =
+      order-judged out o (fitsIn v && within 1 1000000 m) (seeded v m)
+      (rw (e, fit, f ∙ out-of m n 1000000 is (omega arith)) (not-both (fitsIn v) (within 1 1000000 m)))
+      (λ h.
+      let same : n ≡ m = is ∙ within-low m 1 1000000 (omega arith) (both-right (fitsIn v) (within 1 1000000 m) h) .0 in
+      (rw same, sym (holds ∙ fits-clipped v (both-left (fitsIn v) (within 1 1000000 m) h))))

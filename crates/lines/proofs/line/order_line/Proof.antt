@@ -1,0 +1,50 @@
+-- `lines::line::order_line` meets its contract: without a fault its numbers are small, so that the code fits. Assumes nothing.
+use mathlib.Core.Path.{refl}
+use native.Mathlib.Omega.{arith}
+use borrow.Author.Needs.{needs}
+use lib.Dec.{eqb}
+use Rattle.runs.specs.Update.{clash}
+use Rattle.lines.proofs.Wholes.{no-fault}
+use Rattle.lines.proofs.line.order_line.Statement.{statement}
+use Rattle.lines.proofs.line.order_line.Tie as tie
+
+first-fault-requires : tie.Need-first-fault-requires
+first-fault-requires c κs = search needs
+
+enum-told : tie.Need-enum-told
+enum-told c = search needs
+
+returns : tie.Need-returns
+returns c =
+    record {
+      kind = refl;
+      after = refl;
+      ended = refl;
+      judged = c .before .before .first-fault .ensures;
+      tells = λ e. clash (cc (c .enum-told .given .1, c .before .before .first-fault .ensures));
+    }
+
+enum-told-2 : tie.Need-enum-told-2
+enum-told-2 c = search needs
+
+mul-t11 : tie.Need-mul-t11
+mul-t11 c =
+    let start = c .before .before .before .before in
+    let fault = c .before .before .first-fault in
+    let misplaced = eqb (start .args .sofar .workers) 0 in
+    omega (arith, start .pre (no-fault misplaced (start .args .out) (fault .result) (fault .ensures) (c .enum-told2 .given .1)))
+
+add-t12 : tie.Need-add-t12
+add-t12 c =
+    let start = c .before .before .before .before in
+    let fault = c .before .before .first-fault in
+    let misplaced = eqb (start .args .sofar .workers) 0 in
+    omega (arith, start .pre (no-fault misplaced (start .args .out) (fault .result) (fault .ensures) (c .enum-told2 .given .1)))
+
+returns-2 : tie.Need-returns-2
+returns-2 c = search needs
+
+pub order-line-spec : {M : Type 1} → statement M
+order-line-spec =
+    tie.close
+    (tie.spec first-fault-requires enum-told returns enum-told-2 mul-t11 add-t12 returns-2)

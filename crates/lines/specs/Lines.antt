@@ -1,0 +1,128 @@
+-- The code's view of one line: what is answered for its fields.
+use Prim.Native.Nat.{ℕ, _+_, _≤_}
+use mathlib.Core.Path.{_≡_}
+use mathlib.Core.Bool.{Bool, true, false, not, _||_}
+use mathlib.Core.List.{List, [], _∷_}
+use mathlib.Core.Option.{Option, none, some}
+use lib.ListN.{length, drop}
+use lib.Dec.{leb}
+use Rattle.refusals.specs.declared.Refusal.{Refusal}
+use Rattle.refusals.specs.declared.Refusal.the-variants.{Malformed, OutOfRange, Misplaced}
+use Rattle.text.specs.Text.{numberOf}
+use Rattle.text.specs.Fields.{First, unended, first, firstLine, Fields, clipped}
+use Rattle.plan.specs.Plan.{Task, Order, Plan, withWorkers, withOrder}
+use Rattle.plan.specs.Line as plans
+use Rattle.plan.specs.Line.{'T', ask, atStart, hasOrders, isLabel, labelAndCost, taskLine, lineOfFields}
+use Rattle.plan.specs.Reading.{firstRefusal}
+use Rattle.kept.specs.Layout.{mostTaskAccesses}
+use Rattle.kept.specs.Tasks.{Placed, spare, rowOf, Labelled}
+use Rattle.kept.specs.Orders.{codeOf, seedOf}
+use Rattle.lines.specs.declared.line.Fault.{Fault}
+use Rattle.lines.specs.declared.line.Fault.the-variants.{Nothing, Is}
+use Rattle.lines.specs.declared.line.Kind.{Kind}
+use Rattle.lines.specs.declared.line.Kind.the-variants as kinds
+use Rattle.lines.specs.declared.line.Sofar.{Sofar}
+use Rattle.lines.specs.declared.line.Line.{Line}
+
+-- p is what the lines so far come to
+pub record Sums (s : Sofar) (p : Plan) : Type 0 where
+  pub workers : s .workers ≡ p .workers
+  pub tasks : s .tasks ≡ length (p .tasks)
+  pub orders : s .orders ≡ length (p .orders)
+
+-- ---- faults
+
+abbrev pub faultOf : Option Refusal → Fault
+faultOf none = Nothing
+faultOf (some r) = Is r
+
+-- the fault of a line that is of its form
+abbrev pub faultIn : plans.Line → Fault
+faultIn l = faultOf (firstRefusal (l .asks))
+
+-- the fault where the place of a line is judged before its numbers
+abbrev pub firstFault : Bool → Bool → Fault
+firstFault misplaced out = faultOf (firstRefusal (ask (not misplaced) Misplaced ∷ ask (not out) OutOfRange ∷ []))
+
+-- a line that is not of its form
+abbrev pub wrongLine : Line
+wrongLine = record { kind = kinds.Order; first = 0; second = 0; fault = Is Malformed; next = 0; more = false }
+
+-- ---- a line that is read whole: W, P, R, S
+
+-- the fields of the line are of no form, or it has no end
+abbrev pub Formless : (List (List ℕ) → Option plans.Line) → First → Type 0
+Formless form unended = Unit {0}
+Formless form (first fs rest) = form fs ≡ none
+
+-- what a line without fault makes of p, with so few workers that the code of an order line fits; a task's is known once its accesses are
+abbrev pub Makes : Kind → ℕ → ℕ → Plan → Plan → Type 0
+Makes kinds.Workers n second p q = (q ≡ withWorkers p n) × (n ≤ 32)
+Makes kinds.Task n second p q = ⊥
+Makes kinds.Order code seed p q = (o : Order) × (q ≡ withOrder p o) × (codeOf o ≡ code) × (seedOf o ≡ seed)
+
+abbrev pub IsWhole : Kind → Type 0
+IsWhole kinds.Workers = Unit {0}
+IsWhole kinds.Task = ⊥
+IsWhole kinds.Order = Unit {0}
+
+pub record Formed (text : List ℕ) (at : ℕ) (p : Plan) (form : List (List ℕ) → Option plans.Line) (r : Line) : Type 0 where
+  pub l : plans.Line
+  pub fs : List (List ℕ)
+  pub formed : form fs ≡ some l
+  pub fields : Fields text at fs (r .next) false
+  pub ended : r .more ≡ false
+  pub whole : IsWhole (r .kind)
+  pub judged : r .fault ≡ faultIn l
+  pub makes : firstRefusal (l .asks) ≡ none → Makes (r .kind) (r .first) (r .second) p (l .plan)
+
+-- the answer for fields that begin at a place, and are the line that `form` says
+pub data Whole (text : List ℕ) (at : ℕ) (p : Plan) (form : List (List ℕ) → Option plans.Line) (r : Line) : Type 0 where
+  malformed : r ≡ wrongLine → Formless form (firstLine (drop at text)) → Whole text at p form r
+  formed : Formed text at p form r → Whole text at p form r
+
+-- an order line with this fault: without one it tells what is kept of it
+pub record Ordered (fault : Fault) (code seed next : ℕ) (r : Line) : Type 0 where
+  pub kind : r .kind ≡ kinds.Order
+  pub after : r .next ≡ next
+  pub ended : r .more ≡ false
+  pub judged : r .fault ≡ fault
+  pub tells : fault ≡ Nothing → (r .first ≡ code) × (r .second ≡ seed)
+
+-- ---- a task's line, of which label and cost are read
+
+-- a task whose label stands at a place, without accesses
+abbrev pub bare : ℕ → List ℕ → ℕ → Placed
+bare at label cost = record { at = at; task = record { label = label; cost = clipped cost; accesses = [] } }
+
+-- the row of a task whose label stands at a place and has so many bytes, without accesses
+abbrev pub bareRow : ℕ → ℕ → ℕ → List ℕ
+bareRow at size cost = at ∷ size ∷ cost ∷ 0 ∷ spare mostTaskAccesses
+
+-- the fault of its place and its cost
+abbrev pub headFault : Plan → ℕ → Fault
+headFault p cost = faultOf (firstRefusal (ask (not (atStart p || hasOrders p)) Misplaced ∷ ask (leb cost 1000) OutOfRange ∷ []))
+
+pub record Begun (text : List ℕ) (at : ℕ) (p : Plan) (row : List ℕ) (r : Line) : Type 0 where
+  pub label : List ℕ
+  pub digits : List ℕ
+  pub cost : ℕ
+  pub labelled : isLabel label ≡ true
+  pub number : numberOf digits ≡ some cost
+  pub fields : Fields text at (label ∷ digits ∷ []) (r .next) (r .more)
+  pub stands : Labelled text (bare at label cost)
+  pub kept : row ≡ rowOf (bare at label cost)
+  pub judged : r .fault ≡ headFault p cost
+  pub kind : r .kind ≡ kinds.Task
+
+pub data TaskHead (text : List ℕ) (at : ℕ) (p : Plan) (row : List ℕ) (r : Line) : Type 0 where
+  malformed : r ≡ wrongLine → Formless (labelAndCost (taskLine p)) (firstLine (drop at text)) → TaskHead text at p row r
+  begun : Begun text at p row r → TaskHead text at p row r
+
+-- ---- any line
+
+-- the answer for the line that begins at a place: after its letter and a tab a task's label begins
+pub data LineAt (text : List ℕ) (at : ℕ) (p : Plan) (row : List ℕ) (r : Line) : Type 0 where
+  whole : Whole text at p (lineOfFields p) r → LineAt text at p row r
+  task : (b : Begun text (at + 2) p row r) → Fields text at (('T' ∷ []) ∷ b .label ∷ b .digits ∷ []) (r .next) (r .more)
+      → LineAt text at p row r

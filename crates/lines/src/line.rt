@@ -1,0 +1,342 @@
+// One line: a function for each kind reads its fields and judges them, in the order of the refusals.
+ghost use mathlib.Core.Path.{_≡_};
+ghost use mathlib.Core.Bool.{false, not, _||_};
+ghost use Prim.Native.Nat.{_+_, _*_, _≤_, _<_};
+ghost use lib.Dec.{eqb};
+ghost use lib.ListN.{length};
+ghost use Rattle.text.specs.Text.{within};
+ghost use Rattle.plan.specs.Plan.{Plan};
+ghost use Rattle.plan.specs.Line.{oneNumber, twoNumbers, workersLine, roundsLine, picksLine, seededLine};
+ghost use Rattle.kept.specs.Layout as lay;
+ghost use Rattle.lines.specs.Lines.{Sums, wrongLine, firstFault, Whole, Ordered, bareRow, TaskHead, LineAt};
+use kept::layout;
+use plan::field::Label;
+use plan::field::read_label;
+use refusals::Refusal;
+use text::read::Number;
+use text::read::TAB;
+use text::read::look;
+use text::read::read_number;
+
+// The letters of the lines.
+const W: u64 = 87;
+
+const T: u64 = 84;
+
+const P: u64 = 80;
+
+const R: u64 = 82;
+
+const S: u64 = 83;
+
+// The ranges' ends.
+const MOST_WORKERS: u64 = 32;
+
+const MOST_COST: u64 = 1000;
+
+const MOST_PICKS: u64 = 4096;
+
+const MOST_ROUNDS: u64 = 1000000;
+
+const MOST_SEEDED: u64 = 1000000;
+
+// What a line is refused with.
+pub enum Fault {
+    Nothing,
+    Is(Refusal),
+}
+
+// What a line says besides its fault.
+pub enum Kind {
+    Workers,
+    Task,
+    Order,
+}
+
+// What the lines so far come to: the workers (0 before the W line), how many tasks, how many order lines.
+pub struct Sofar {
+    pub workers: u64,
+    pub tasks: usize,
+    pub orders: usize,
+}
+
+// A line as it was read: its fault, and the place after it. The numbers are the workers, or what is kept of an order line. Of a task's line
+// the accesses are still to be read: `more` says whether there is one, and the fault is that of its place and its cost.
+pub struct Line {
+    pub kind: Kind,
+    pub first: u64,
+    pub second: u64,
+    pub fault: Fault,
+    pub next: usize,
+    pub more: bool,
+}
+
+// A line that is not of its form.
+fn wrong() -> Line
+    ensures { λ r. ⌜ r ≡ wrongLine ⌝ }
+{
+    Line {
+        kind: Kind::Order,
+        first: 0,
+        second: 0,
+        fault: Fault::Is(Refusal::Malformed),
+        next: 0,
+        more: false,
+    }
+}
+
+fn outside(low: u64, high: u64, n: u64) -> bool
+    ensures { λ r. ⌜ r ≡ not (within low high n) ⌝ }
+{
+    if n < low {
+        return true;
+    }
+    high < n
+}
+
+pub(crate) fn either(a: bool, b: bool) -> bool
+    ensures { λ r. ⌜ r ≡ (a || b) ⌝ }
+{
+    if a {
+        return true;
+    }
+    b
+}
+
+// The place of a line is judged before its numbers.
+fn first_fault(misplaced: bool, out: bool) -> Fault
+    ensures { λ r. ⌜ r ≡ firstFault misplaced out ⌝ }
+{
+    if misplaced {
+        return Fault::Is(Refusal::Misplaced);
+    }
+    if out {
+        return Fault::Is(Refusal::OutOfRange);
+    }
+    Fault::Nothing
+}
+
+// W: first, and once.
+fn workers_line(text: &[u8], at: usize, sofar: Sofar) -> Line
+    requires { ⌜ at ≤ length (now text) ⌝ }
+    ensures { λ r. ⌜ ((p : Plan) → Sums sofar p → Whole (now (text .entry)) at p (oneNumber (workersLine p)) r) ⌝ }
+{
+    match read_number(text, at) {
+        Number::Malformed => wrong(),
+        Number::Is {
+            value,
+            fits: _,
+            next,
+            more,
+        } => {
+            if more {
+                return wrong();
+            }
+            Line {
+                kind: Kind::Workers,
+                first: value,
+                second: 0,
+                fault: first_fault(sofar.workers != 0, outside(1, MOST_WORKERS, value)),
+                next,
+                more: false,
+            }
+        }
+    }
+}
+
+// An order line: the count, who is picked, and the seed.
+fn order_line(n: u64, who: u64, seed: u64, out: bool, sofar: Sofar, next: usize) -> Line
+    requires { ⌜ (out ≡ false → (n ≤ 1000000) × (who < lay.who)) ⌝ }
+    ensures { λ r. ⌜ Ordered (firstFault (eqb (sofar .workers) 0) out) (n * lay.who + who) seed next r ⌝ }
+{
+    let fault = first_fault(sofar.workers == 0, out);
+    if let Fault::Is(_) = fault {
+        return Line {
+            kind: Kind::Order,
+            first: 0,
+            second: 0,
+            fault,
+            next,
+            more: false,
+        };
+    }
+    Line {
+        kind: Kind::Order,
+        first: n * layout::WHO + who,
+        second: seed,
+        fault,
+        next,
+        more: false,
+    }
+}
+
+// R: rounds.
+fn rounds_line(text: &[u8], at: usize, sofar: Sofar) -> Line
+    requires { ⌜ at ≤ length (now text) ⌝ }
+    ensures { λ r. ⌜ ((p : Plan) → Sums sofar p → Whole (now (text .entry)) at p (oneNumber (roundsLine p)) r) ⌝ }
+{
+    match read_number(text, at) {
+        Number::Malformed => wrong(),
+        Number::Is {
+            value: n,
+            fits: _,
+            next,
+            more,
+        } => {
+            if more {
+                return wrong();
+            }
+            order_line(
+                n,
+                layout::IN_TURN,
+                0,
+                outside(1, MOST_ROUNDS, n),
+                sofar,
+                next,
+            )
+        }
+    }
+}
+
+// P: a worker, so many times.
+fn picks_line(text: &[u8], at: usize, sofar: Sofar) -> Line
+    requires { ⌜ (at ≤ length (now text)) × (sofar .workers ≤ 32) ⌝ }
+    ensures { λ r. ⌜ ((p : Plan) → Sums sofar p → Whole (now (text .entry)) at p (twoNumbers (picksLine p)) r) ⌝ }
+{
+    match read_number(text, at) {
+        Number::Malformed => wrong(),
+        Number::Is {
+            value: worker,
+            fits: _,
+            next: then,
+            more: goes_on,
+        } => {
+            if !goes_on {
+                return wrong();
+            }
+            match read_number(text, then) {
+                Number::Malformed => wrong(),
+                Number::Is {
+                    value: n,
+                    fits: _,
+                    next,
+                    more,
+                } => {
+                    if more {
+                        return wrong();
+                    }
+                    let out = either(sofar.workers <= worker, outside(1, MOST_PICKS, n));
+                    order_line(n, worker, 0, out, sofar, next)
+                }
+            }
+        }
+    }
+}
+
+// S: a seed, and so many seeded picks.
+fn seeded_line(text: &[u8], at: usize, sofar: Sofar) -> Line
+    requires { ⌜ at ≤ length (now text) ⌝ }
+    ensures { λ r. ⌜ ((p : Plan) → Sums sofar p → Whole (now (text .entry)) at p (twoNumbers (seededLine p)) r) ⌝ }
+{
+    match read_number(text, at) {
+        Number::Malformed => wrong(),
+        Number::Is {
+            value: seed,
+            fits,
+            next: then,
+            more: goes_on,
+        } => {
+            if !goes_on {
+                return wrong();
+            }
+            match read_number(text, then) {
+                Number::Malformed => wrong(),
+                Number::Is {
+                    value: n,
+                    fits: _,
+                    next,
+                    more,
+                } => {
+                    if more {
+                        return wrong();
+                    }
+                    let out = either(!fits, outside(1, MOST_SEEDED, n));
+                    order_line(n, layout::BY_SEED, seed, out, sofar, next)
+                }
+            }
+        }
+    }
+}
+
+// The row of a task without accesses.
+fn begin_row(row: &mut [u64], place: usize, size: usize, cost: u64)
+    requires { ⌜ length (now row) ≡ lay.taskRow ⌝ }
+    ensures { λ r. ⌜ now (row .exit) ≡ bareRow place size cost ⌝ }
+{
+    let mut k: usize = layout::COUNT;
+    while k < layout::TASK_ROW {
+        row[k] = 0;
+        k += 1;
+    }
+    row[layout::PLACE] = place as u64;
+    row[layout::SIZE] = size as u64;
+    row[layout::COST] = cost;
+}
+
+// T: a label and a cost; its accesses follow.
+fn task_line(text: &[u8], at: usize, sofar: Sofar, row: &mut [u64]) -> Line
+    requires { ⌜ (at ≤ length (now text)) × (length (now row) ≡ lay.taskRow) ⌝ }
+    ensures { λ r. ⌜ ((p : Plan) → Sums sofar p → TaskHead (now (text .entry)) at p (now (row .exit)) r) ⌝ }
+{
+    match read_label(text, at) {
+        Label::Malformed => wrong(),
+        Label::Is {
+            len,
+            next: then,
+            more: goes_on,
+        } => {
+            if !goes_on {
+                return wrong();
+            }
+            match read_number(text, then) {
+                Number::Malformed => wrong(),
+                Number::Is {
+                    value: cost,
+                    fits: _,
+                    next,
+                    more,
+                } => {
+                    begin_row(row, at, len, cost);
+                    let misplaced = either(sofar.workers == 0, sofar.orders != 0);
+                    Line {
+                        kind: Kind::Task,
+                        first: 0,
+                        second: 0,
+                        fault: first_fault(misplaced, MOST_COST < cost),
+                        next,
+                        more,
+                    }
+                }
+            }
+        }
+    }
+}
+
+// The line at a place: a letter and a tab, and the fields of its kind.
+pub fn read_line(text: &[u8], at: usize, sofar: Sofar, row: &mut [u64]) -> Line
+    requires { ⌜ (at < length (now text)) × (length (now row) ≡ lay.taskRow) × (sofar .workers ≤ 32) ⌝ }
+    ensures { λ r. ⌜ ((p : Plan) → Sums sofar p → LineAt (now (text .entry)) at p (now (row .exit)) r) ⌝ }
+{
+    let letter = look(text, at);
+    if look(text, at + 1) != TAB {
+        return wrong();
+    }
+    match letter {
+        W => workers_line(text, at + 2, sofar),
+        T => task_line(text, at + 2, sofar, row),
+        P => picks_line(text, at + 2, sofar),
+        R => rounds_line(text, at + 2, sofar),
+        S => seeded_line(text, at + 2, sofar),
+        _ => wrong(),
+    }
+}
