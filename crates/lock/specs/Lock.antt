@@ -21,6 +21,7 @@ pub record Lock : Type 0 where
 abbrev pub EMPTY : ℕ
 EMPTY = 0
 
+-- the start values
 unfoldable pub start : ℕ → Lock
 start N =
     record {
@@ -44,13 +45,14 @@ takeTicket l =
       cellTask = l .cellTask;
     }
 
--- a ticket and a worker number as one number, and the worker out of it again
+-- a registration: a ticket and a worker number, added here and nowhere else; and the worker out of it again
 unfoldable pub join : ℕ → ℕ → ℕ
 join ticket worker = ticket + worker
 
 unfoldable pub workerIn : ℕ → ℕ → ℕ
 workerIn registration ticket = registration - ticket
 
+-- registering writes the registration at the ticket's slot
 unfoldable pub register : ℕ → Lock → ℕ → ℕ → Lock
 register N l ticket worker =
     record {
@@ -62,11 +64,11 @@ register N l ticket worker =
       cellTask = l .cellTask;
     }
 
--- it is a ticket's turn
+-- it is a ticket's turn when its wait slot is at least the ticket
 unfoldable pub turn : ℕ → Lock → ℕ → Bool
 turn N l ticket = leb ticket (l .wait (ticket % N))
 
--- the tail goes into its wait slot and is raised
+-- a hand-over: the tail goes into its wait slot and is raised
 unfoldable pub handOver : ℕ → Lock → Lock
 handOver N l =
     record {
@@ -78,7 +80,7 @@ handOver N l =
       cellTask = l .cellTask;
     }
 
--- the worker that is registered with the tail
+-- the registered front waiter: the worker that is registered with the tail, where the tail's slot holds a registration of at least the tail
 unfoldable pub front : ℕ → Lock → Option ℕ
 front N l =
     elim (leb (l .tail) (l .registration (l .tail % N))) [
@@ -86,6 +88,7 @@ front N l =
       | false ↦ none
     ]
 
+-- the lock is free when the tail is one past the head
 unfoldable pub isFree : Lock → Bool
 isFree l = eqb (l .tail) (suc (l .head))
 

@@ -5,10 +5,11 @@ use mathlib.Core.Bool.{true, false}
 use mathlib.Core.Option.{none, some}
 use mathlib.Core.List.{List, [], _∷_, _++_, List·Memᴰ}
 use Prim.Native.Nat.{ℕ, suc, _+_, _-_, _≤_, _<_}
+use native.Mathlib.Omega.{arith}
 use lib.ListN.{length}
 use Rattle.runs.specs.Update.{upd}
 use Rattle.lock.specs.Lock as lock
-use Rattle.lock.specs.Lock.{Lock, EMPTY, start, turn, join, distance, front, isFree, notYet, receives, owns, look}
+use Rattle.lock.specs.Lock.{Lock, EMPTY, start, turn, join, workerIn, distance, front, isFree, notYet, receives, owns, look}
 use Rattle.lock.specs.History.{Stand, out, taken, waiting, owning, serving, Op, take, register, own, receive, fill, pass, leave, try}
 use Rattle.lock.specs.History.{Can, after, standAfter, handsOver, takes, registers, fills, Move, handOvers, Run, History}
 use Rattle.lock.specs.History.{Holds, Owner, Served, Due, Called, InCell}
@@ -242,10 +243,14 @@ holds-one = Laws.holds-one
 pub owner-none : {x : Stand} {t : ℕ} → Owner x → Holds x t → ⊥
 owner-none = Facts.no-ticket
 
--- a registration is a sum
+-- a registration is a sum, and the worker comes out of it again
 pub joined : (t w : ℕ) → join t w ≡ t + w
 unfolding join
 joined t w = refl
+
+pub worker-joined : (t w : ℕ) → workerIn (join t w) t ≡ w
+unfolding join workerIn
+worker-joined t w = omega arith
 
 -- who receives has a cell with its ticket, and who owns has none
 pub look-received : (N : ℕ) (l : Lock) (t w j : ℕ) → look N l t w ≡ receives j → (l .cellTicket w ≡ t) × (l .cellTask w ≡ j)
@@ -298,6 +303,10 @@ module _ (N : ℕ) (l : Lock) (w : ℕ) where
   -- the tail is raised by hand-overs alone
   pub tail-after : (op : Op) → (after N l w op) .tail ≡ l .tail + handsOver op
   tail-after op = (Changes.ends-after N l w op) .1
+
+  -- so an ownership that is won, by a look or by a try, does not raise it
+  pub tail-owned : (t : ℕ) → ((after N l w (own t)) .tail ≡ l .tail) × ((after N l w try) .tail ≡ l .tail)
+  tail-owned t = (omega (arith, tail-after (own t)), omega (arith, tail-after try))
 
   -- a task goes into a cell with the tail as its ticket
   pub fill-after : (v j : ℕ)

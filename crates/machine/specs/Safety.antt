@@ -13,13 +13,13 @@ pub mod Flags
 use Prim.Native.Nat.{ℕ, suc, _+_, _-_, _≤_, _<_}
 use native.Mathlib.Omega.{arith}
 use mathlib.Core.Path.{_≡_, refl, sym, ap, _∙_}
-use mathlib.Core.Logic.{_⊎_, inl, inr, ⊎-elim}
+use mathlib.Core.Logic.{_⊎_, inl, inr, ⊎-elim, _≢_}
 use mathlib.Core.Bool.{Bool, true, false}
 use mathlib.Core.List.{List, [], _∷_, _++_}
 use mathlib.Core.Option.{Option, none, some}
-use lib.ListN.{length, getElem?}
+use lib.ListN.{length, take, drop, getElem?, length-take}
 use Rattle.runs.specs.Update.{order, upd}
-use Rattle.runs.specs.Picks.{Picks, run-append}
+use Rattle.runs.specs.Picks.{Picks, picks-take, run, run-append, run-drop}
 use Rattle.lock.specs.History.{Owner}
 use Rattle.lock.specs.Promise as Lock
 use Rattle.tasks.specs.Accesses.{taskAt, conflict}
@@ -35,7 +35,7 @@ use Rattle.machine.specs.Step.{taskOp, step, finished, pick, after}
 use Rattle.machine.specs.View.{Does, does}
 use Rattle.machine.specs.Trace.{Happening, trace, tally, isReceipt, isEnding}
 use Rattle.machine.specs.Whereabouts.{lockStand, stored, boxes, hands, places}
-use Rattle.machine.specs.Safety.Traces.{pick-finished, pick-open, run-finished, run-inv, picks-taken, taken-within}
+use Rattle.machine.specs.Safety.Traces.{pick-finished, pick-open, run-finished, run-inv, picks-taken, taken-within, taken-all}
 use Rattle.machine.specs.Safety.Histories as R
 use Rattle.machine.specs.Safety.Bounds.{Roomy, roomy-start, roomy-step, ready-length, Small, small-start, small-step}
 use Rattle.machine.specs.Safety.Invariant.{Playable, Inv, may-do, inv-after}
@@ -54,6 +54,18 @@ pick-to-add c s w i l = go (finished c s) refl
         → (pick c s w) .tasks .adds ≡ upd (s .tasks .adds) w (s .tasks .adds w ++ i ∷ [])
     go true e = rw (pick-finished c s w e) (λ z. absurd (omega arith))
     go false e = rw (pick-open c s w e) (step-to-add c s w i l)
+
+-- another worker's mailbox: after a step, and after a pick
+step-mail : (c : Setup) (s : State) (w u : ℕ) → u ≢ w → (step c s w) .tasks .mail u ≡ s .tasks .mail u
+unfolding step
+step-mail c s w u k = (P.others-by (c .tasks) (suc (s .picks)) (s .tasks) w (taskOp (event c s w)) u k) .0
+
+pick-mail : (c : Setup) (s : State) (w u : ℕ) → u ≢ w → (pick c s w) .tasks .mail u ≡ s .tasks .mail u
+pick-mail c s w u k = go (finished c s) refl
+  where
+    go : (b : Bool) → finished c s ≡ b → (pick c s w) .tasks .mail u ≡ s .tasks .mail u
+    go true e = rw (pick-finished c s w e) refl
+    go false e = rw (pick-open c s w e) (step-mail c s w u k)
 
 -- at a receipt of task j it is ready or held
 receipt-status : (c : Setup) (s : State) → Inv c s → (w : ℕ) → w < c .workers → {e : Event} → Does c s w e → (j : ℕ) → 0 < isReceipt j e
@@ -143,6 +155,10 @@ module _ (c : Setup) (playable : Playable c) (ws : List ℕ) (p : Picks (c .work
       → (after c (ws ++ w ∷ [])) .tasks .adds ≡ upd ((after c ws) .tasks .adds) w ((after c ws) .tasks .adds w ++ i ∷ [])
   has-to-add w i = rw (one-more w) (pick-to-add c (after c ws) w i)
 
+  -- a message is posted to the mailbox of the worker whose step causes it: a pick leaves every other mailbox as it is
+  pub posts-own : (w u : ℕ) → u ≢ w → (after c (ws ++ w ∷ [])) .tasks .mail u ≡ (after c ws) .tasks .mail u
+  posts-own w u k = rw (one-more w) (pick-mail c (after c ws) w u k)
+
   -- a task that is ready, held, run or over has every earlier task that conflicts with it over
   pub in-order : (i j : ℕ) → i < j → j < length (c .tasks) → conflict (taskAt (c .tasks) i) (taskAt (c .tasks) j) ≡ true
       → pastWaiting ((after c ws) .tasks .status j) ≡ 1 → (after c ws) .tasks .status i ≡ over
@@ -173,6 +189,31 @@ module _ (c : Setup) (playable : Playable c) (ws : List ℕ) (p : Picks (c .work
   pub picks-counted : ((after c ws) .picks ≡ length (trace c (start c) ws)) × (length (trace c (start c) ws) ≤ length ws)
   unfolding after start
   picks-counted = (omega (arith, picks-taken c ws p (start c)), taken-within c ws (start c))
+
+  -- where the state is finished after n picks of the list, no more were taken
+  stopped : (n : ℕ) → finished c (after c (take n ws)) ≡ true → (after c ws) .picks ≤ n
+  unfolding after start
+  stopped n e =
+      rw (run-drop (pick c) (start c) n ws, run-finished c (run (pick c) (start c) (take n ws)) e (drop n ws))
+      (omega (
+        arith,
+        picks-taken c (take n ws) (picks-take (c .workers) n ws p) (start c),
+        taken-within c (take n ws) (start c),
+        length-take n ws,
+      ))
+
+  -- picks stop at the end of the list or when the state is finished, whichever is first
+  pub taken-until : (((after c ws) .picks ≡ length ws) ⊎ (finished c (after c ws) ≡ true))
+      × ((n : ℕ) → n < (after c ws) .picks → finished c (after c (take n ws)) ≡ false)
+  unfolding after
+  taken-until = (
+    ⊎-elim (λ l. inl (omega (arith, picks-counted .0))) inr (taken-all c ws (start c)),
+    λ n l. go n l (finished c (after c (take n ws))) refl,
+  )
+    where
+      go : (n : ℕ) → n < (after c ws) .picks → (b : Bool) → finished c (after c (take n ws)) ≡ b → b ≡ false
+      go n l true e = absurd (omega (arith, stopped n e))
+      go n l false e = refl
 
   -- what is noted of a task is a worker's number, and no later than the last pick taken
   pub noted : (i : ℕ) → ((after c ws) .tasks .runner i < c .workers) × ((after c ws) .tasks .receipt i ≤ (after c ws) .picks)

@@ -1,10 +1,11 @@
 -- Searches: the last number below a bound that passes a test, and the first from a number on.
 use Prim.Native.Nat.{ℕ, zero, suc, _<_}
 use native.Mathlib.Omega.{arith}
-use mathlib.Core.Path.{_≡_, refl}
+use mathlib.Core.Path.{_≡_, refl, ap}
+use mathlib.Core.Logic.{⊎-elim}
 use mathlib.Core.Bool.{Bool, true, false}
 use mathlib.Core.Option.{Option, none, some}
-use Rattle.runs.specs.Update.{clash}
+use Rattle.runs.specs.Update.{same, clash}
 
 -- the last of the numbers below n that passes a test
 unfoldable pub lastBelow : (ℕ → Bool) → ℕ → Option ℕ
@@ -37,6 +38,27 @@ module _ (test : ℕ → Bool) where
       go : (b : Bool) → (lastBelow test n ≡ some w → w < n) → elim b [ true ↦ some n | false ↦ lastBelow test n ] ≡ some w → w < suc n
       go true f q = let z : n ≡ w = cc in omega arith
       go false f q = omega (arith, f q)
+
+  -- what is found passes the test
+  pub last-passes : (n w : ℕ) → lastBelow test n ≡ some w → test w ≡ true
+  unfolding lastBelow
+  last-passes zero w e = clash (cc)
+  last-passes (suc n) w e = go (test n) refl (last-passes n w) e
+    where
+      go : (b : Bool) → test n ≡ b → (lastBelow test n ≡ some w → test w ≡ true)
+          → elim b [ true ↦ some n | false ↦ lastBelow test n ] ≡ some w → test w ≡ true
+      go true p f q = let z : n ≡ w = cc in rw z at p
+      go false p f q = f q
+
+  -- the only one that passes is found
+  pub last-only : (n w : ℕ) → w < n → test w ≡ true → ((v : ℕ) → test v ≡ true → v ≡ w) → lastBelow test n ≡ some w
+  unfolding lastBelow
+  last-only zero w l e only = absurd (omega arith)
+  last-only (suc n) w l e only = go (test n) refl (λ k. last-only n w k e only)
+    where
+      go : (b : Bool) → test n ≡ b → (w < n → lastBelow test n ≡ some w) → elim b [ true ↦ some n | false ↦ lastBelow test n ] ≡ some w
+      go true p f = ap some (only n p)
+      go false p f = f (⊎-elim (λ (q : w ≡ n). clash (cc)) (λ q. omega arith) (same w n))
 
 -- only the numbers below count
 pub last-same : (f g : ℕ → Bool) (n : ℕ) → ((b : ℕ) → b < n → f b ≡ g b) → lastBelow f n ≡ lastBelow g n

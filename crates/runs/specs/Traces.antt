@@ -5,7 +5,7 @@ use native.Mathlib.Omega.{arith}
 use mathlib.Core.Path.{_≡_, refl}
 use mathlib.Core.Bool.{Bool, true, false}
 use mathlib.Core.List.{List, [], _∷_}
-use mathlib.Core.Logic.{⊎-elim}
+use mathlib.Core.Logic.{_⊎_, inl, inr, ⊎-elim}
 use mathlib.Core.Option.{some}
 use lib.ListN.{length, getElem?}
 use Rattle.runs.specs.Update.{order}
@@ -105,3 +105,16 @@ module _ {S : Type 0} (finished : S → Bool) (step : S → ℕ → S) where
             (length ws)
         go true l = omega arith
         go false l = omega arith
+
+    -- all picks of the list are taken, or the state is finished
+    pub taken-all : (ws : List ℕ) (s : S) → (length (trace s ws) ≡ length ws) ⊎ (finished (run pick s ws) ≡ true)
+    unfolding trace
+    taken-all [] s = inl refl
+    taken-all (w ∷ ws) s = go (finished s) refl (taken-all ws (step s w))
+      where
+        go : (b : Bool) → finished s ≡ b → (length (trace (step s w) ws) ≡ length ws) ⊎ (finished (run pick (step s w) ws) ≡ true)
+            → (length {A = Happening E} (elim b [ true ↦ [] | false ↦ record { by = w; what = event s w } ∷ trace (step s w) ws ])
+            ≡ suc (length ws))
+            ⊎ (finished (run pick (pick s w) ws) ≡ true)
+        go true e r = inr (rw (pick-finished s w e, run-finished s e ws) e)
+        go false e r = rw (pick-open s w e) (⊎-elim (λ l. inl (omega arith)) inr r)

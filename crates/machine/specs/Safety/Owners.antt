@@ -1,14 +1,23 @@
--- Who is shown as the owner owns the lock by the lock's own word.
+-- Who is shown as the owner owns the lock by the lock's own word: from the look or try that wins until it hands over and leaves.
 use Prim.Native.Nat.{ℕ, _<_}
-use mathlib.Core.Path.{_≡_, refl}
+use mathlib.Core.Path.{_≡_, refl, ap, _∙_}
 use mathlib.Core.Logic.{_↔_, inl, inr, ⊎-elim}
-use mathlib.Core.Bool.{true}
-use mathlib.Core.Option.{some}
-use Rattle.runs.specs.Update.{clash}
-use Rattle.runs.specs.Searches.{last-below}
+use mathlib.Core.Bool.{Bool, true, false}
+use mathlib.Core.List.{List}
+use mathlib.Core.Option.{Option, none, some}
+use Rattle.runs.specs.Update.{upd-same, clash}
+use Rattle.runs.specs.Searches.{last-below, last-passes, last-only}
+use Rattle.runs.specs.Picks.{Picks}
+use Rattle.lock.specs.Lock as L
 use Rattle.lock.specs.History as LH
-use Rattle.machine.specs.State.{Setup, State}
+use Rattle.lock.specs.Promise as Lock
+use Rattle.machine.specs.State.{Setup, Place, State, picked}
+use Rattle.machine.specs.Event.{event}
+use Rattle.machine.specs.Step.{lockOp, step, after}
+use Rattle.machine.specs.View.{does-step}
 use Rattle.machine.specs.Whereabouts.{lockStand, isOwner, owner}
+use Rattle.machine.specs.Safety.Locked.{LockMove, aside, operates, lock-move}
+use Rattle.machine.specs.Safety.Invariant.{Playable, inv-after}
 
 pub owner-is : (x : LH.Stand) → (isOwner x ≡ true) ↔ LH.Owner x
 owner-is x = (shown x, ⊎-elim (λ (e : x ≡ LH.owning). rw e) (λ (e : x ≡ LH.serving). rw e))
@@ -24,3 +33,48 @@ owner-is x = (shown x, ⊎-elim (λ (e : x ≡ LH.owning). rw e) (λ (e : x ≡ 
 pub owner-below : (c : Setup) (s : State) (w : ℕ) → owner c s ≡ some w → w < c .workers
 unfolding owner
 owner-below c s w e = last-below (λ k. isOwner (lockStand (s .place k))) (c .workers) w e
+
+-- who is shown is exactly who owns
+pub owner-exactly : (c : Setup) → Playable c → (ws : List ℕ) → Picks (c .workers) ws → (w : ℕ)
+    → (owner c (after c ws) ≡ some w) ↔ ((w < c .workers) × LH.Owner (lockStand ((after c ws) .place w)))
+unfolding owner
+owner-exactly c playable ws p w =
+    let test : ℕ → Bool = λ k. isOwner (lockStand ((after c ws) .place k)) in (
+      λ e. (last-below test (c .workers) w e, owner-is _ .0 (last-passes test (c .workers) w e)),
+      λ (l, o). last-only test (c .workers) w l (owner-is _ .1 o)
+          (λ v e. Lock.one-owner (inv-after c playable ws p .locked) v w (owner-is _ .0 e) o),
+    )
+
+-- whether a worker owns after its step, by whether it owned before: an ownership is won by a look or a try, and ends by leaving
+abbrev pub ownsAfter : Bool → Option LH.Op → Bool
+ownsAfter before none = before
+ownsAfter before (some LH.take) = before
+ownsAfter before (some (LH.register t)) = before
+ownsAfter before (some (LH.own t)) = true
+ownsAfter before (some (LH.receive t i)) = before
+ownsAfter before (some (LH.fill v i)) = before
+ownsAfter before (some LH.pass) = before
+ownsAfter before (some LH.leave) = false
+ownsAfter before (some LH.try) = true
+
+by-operation : {N : ℕ} {l : L.Lock} {x : LH.Stand} {w : ℕ} {op : LH.Op} → LH.Can N l x w op
+    → isOwner (LH.standAfter l op) ≡ ownsAfter (isOwner x) (some op)
+by-operation (LH.can-take e) = rw e refl
+by-operation (LH.can-register t e) = rw e refl
+by-operation (LH.can-own t e q) = refl
+by-operation (LH.can-receive t i e q) = rw e refl
+by-operation (LH.can-fill v i e q) = rw e refl
+by-operation (LH.can-pass e) = rw e refl
+by-operation (LH.can-leave e) = refl
+by-operation (LH.can-try e q) = refl
+
+by-move : (c : Setup) (s : State) (w : ℕ) {o : Option LH.Op} {p : Place} → LockMove c s w o p
+    → isOwner (lockStand p) ≡ ownsAfter (isOwner (lockStand (s .place w))) o
+by-move c s w (aside e) = ap isOwner e
+by-move c s w (operates op can e) = ap isOwner e ∙ by-operation can
+
+-- at every state: only its own steps change whether a worker owns
+pub owns-after : (c : Setup) (s : State) (w : ℕ)
+    → isOwner (lockStand ((step c s w) .place w)) ≡ ownsAfter (isOwner (lockStand (s .place w))) (lockOp (event c s w))
+unfolding step
+owns-after c s w = simp upd-same (by-move c (picked s) w (lock-move c (picked s) w (does-step c s w)))

@@ -2,6 +2,7 @@
 use Prim.Native.Nat.{ℕ, suc, _+_, _≤_, _<_}
 use native.Mathlib.Omega.{arith}
 use mathlib.Core.Path.{_≡_, refl}
+use mathlib.Core.Logic.{_⊎_}
 use mathlib.Core.Bool.{true, false}
 use mathlib.Core.List.{List}
 use lib.ListN.{length}
@@ -46,3 +47,7 @@ module _ (c : Setup) where
 
   pub taken-within : (ws : List ℕ) (s : State) → length (trace c s ws) ≤ length ws
   taken-within = Traces.taken-within (finished c) (step c) (event c)
+
+  -- all of the list, or until the state is finished
+  pub taken-all : (ws : List ℕ) (s : State) → (length (trace c s ws) ≡ length ws) ⊎ (finished c (run (pick c) s ws) ≡ true)
+  taken-all = Traces.taken-all (finished c) (step c) (event c)
