@@ -1,16 +1,17 @@
 -- What holds of every accepted plan: under every list of picks, and under those of its own order lines.
-use Prim.Native.Nat.{ℕ, _^_, _≤_, _<_}
-use mathlib.Core.Path.{_≡_, refl}
-use mathlib.Core.Logic.{⊎-elim}
-use mathlib.Core.Bool.{true}
+use Prim.Native.Nat.{ℕ, _^_, _≤_, _<_, min}
+use mathlib.Core.Path.{_≡_, refl, _∙_}
+use mathlib.Core.Logic.{_⊎_, inl, inr, ⊎-elim}
+use mathlib.Core.Bool.{true, false}
 use mathlib.Core.List.{List}
 use native.Mathlib.Omega.{arith}
-use lib.ListN.{length, List·getD-eq-default}
+use lib.ListN.{length, take, length-take, List·getD-eq-default}
+use lib.Seq.{take-take}
 use Rattle.runs.specs.Update.{order}
 use Rattle.runs.specs.Picks.{Picks, Regular}
 use Rattle.plan.specs.Plan.{Plan}
 use Rattle.plan.specs.Reading.{accepted, reading}
-use Rattle.plan.specs.Orders.{picksUpTo}
+use Rattle.plan.specs.Orders.{picksOfAll, picksUpTo}
 use Rattle.plan.specs.Accepted.{WellFormed, accepted-well-formed}
 use Rattle.tasks.specs.Accesses.{taskAt}
 use Rattle.machine.specs.Step.{finished}
@@ -62,6 +63,21 @@ module _ (text : List ℕ) (p : Plan) (e : reading text ≡ accepted p) where
       let (h, t, _) = Safety.ends-bounded (setupOf p) playable (picksUpTo limit p) (own-picks limit) in
       let few = picks-few text p e limit in
       (omega arith, omega arith, omega arith)
+
+  -- picks stop at the limit, the end of the order or when finished, whichever is first: each that is taken finds a state that isn't finished
+  pub own-taken : (limit : ℕ)
+      → (((reached p limit) .picks ≡ min limit (length (picksOfAll (p .workers) (p .orders))))
+      ⊎ (finished (setupOf p) (reached p limit) ≡ true))
+      × ((n : ℕ) → n < (reached p limit) .picks → finished (setupOf p) (reached p n) ≡ false)
+  own-taken limit =
+      let all = picksOfAll (p .workers) (p .orders) in
+      let (a, b) = Safety.picks-counted (setupOf p) playable (picksUpTo limit p) (own-picks limit) in
+      let (stops, goes-on) = Safety.taken-until (setupOf p) playable (picksUpTo limit p) (own-picks limit) in (
+        ⊎-elim (λ e. inl (e ∙ length-take limit all)) inr stops,
+        λ n l.
+            let front : take n (picksUpTo limit p) ≡ picksUpTo n p = take-take n limit all (omega (arith, length-take limit all)) in
+            rw front at (goes-on n l),
+      )
 
   -- where the finishing figure applies the run is finished, with no more picks taken than that
   pub own-finish : (limit B : ℕ) → Regular (p .workers) B (picksUpTo limit p) → finishingFigure (setupOf p) B ≤ length (picksUpTo limit p)

@@ -1,0 +1,29 @@
+-- The program reads one byte more than a plan may have, and no more: what it prints is what it would print for the whole text.
+use Prim.Native.Nat.{ℕ, _≤_, _<_}
+use native.Mathlib.Omega.{arith}
+use mathlib.Core.Path.{_≡_, sym, ap, _∙_}
+use mathlib.Core.Logic.{⊎-elim}
+use mathlib.Core.List.{List}
+use lib.ListN.{length, take, length-take}
+use lib.Seq.{take-all}
+use borrow.Author.Tests.{lt-ltb}
+use Rattle.runs.specs.Update.{order}
+use Rattle.refusals.specs.declared.Refusal.the-variants.{TextTooLong}
+use Rattle.plan.specs.Reading.{refused, reading}
+use Rattle.bench.specs.Answer.{textSize, printedFor, printed}
+
+-- how many bytes it reads at the most
+abbrev pub readSize : ℕ
+readSize = 65537
+
+too-long : (text : List ℕ) → textSize < length text → reading text ≡ refused TextTooLong 0
+unfolding reading
+too-long text l = rw (lt-ltb textSize (length text) l, reading)
+
+pub cut-alike : (text : List ℕ) → printed (take readSize text) ≡ printed text
+cut-alike text =
+    ap printedFor
+    (⊎-elim
+    (λ (l : readSize < length text). too-long (take readSize text) (omega (arith, length-take readSize text)) ∙ sym (too-long text (omega arith)))
+    (λ (l : length text ≤ readSize). ap reading (take-all readSize text l))
+    (order readSize (length text)))
