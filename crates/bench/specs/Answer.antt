@@ -32,7 +32,7 @@ module _ (limit : ℕ) (store output : List ℕ) where
   played (accepted p) = written (cleared store) output (reached p limit .picks) (reportOf p limit)
   played (refused r n) = refusal (cleared store) output r n
 
-  -- the whole answer of a run of a text
+  -- the whole answer of a run of a text: its length is tested first, the store's second, the output's last
   unfoldable pub run : List ℕ → Outcome
   run text =
       elim (isTooLong text) [

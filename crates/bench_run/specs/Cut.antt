@@ -24,6 +24,7 @@ pub cut-alike : (text : List ℕ) → printed (take readSize text) ≡ printed t
 cut-alike text =
     ap printedFor
     (⊎-elim
-    (λ (l : readSize < length text). too-long (take readSize text) (omega (arith, length-take readSize text)) ∙ sym (too-long text (omega arith)))
+    (λ (l : readSize < length text).
+    too-long (take readSize text) (omega (arith, length-take readSize text)) ∙ sym (too-long text (omega arith)))
     (λ (l : length text ≤ readSize). ap reading (take-all readSize text l))
     (order readSize (length text)))

@@ -10,6 +10,7 @@ ghost use Rattle.lock.specs.Lock.{EMPTY, join, workerIn};
 ghost use Rattle.lock.specs.Arrays.{lockOf};
 ghost use Rattle.lock.specs.Answers.{seen, waiter};
 
+// A ticket and a worker's number: `joined` alone adds the two.
 pub struct Ticket(pub u64);
 
 pub struct Worker(pub u64);

@@ -1,4 +1,5 @@
 -- The state of a run: the lock, the tasks, where each worker stands with either, and where the device keeps the tasks that it was given.
+-- The device is what hands the ready tasks to the workers: here the lock, with queues, ready list and cells.
 use Prim.Native.Nat.{ℕ, suc}
 use mathlib.Core.List.{List, []}
 use Rattle.lock.specs.Lock as L

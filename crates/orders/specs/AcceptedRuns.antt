@@ -64,7 +64,7 @@ module _ (text : List ℕ) (p : Plan) (e : reading text ≡ accepted p) where
       let few = picks-few text p e limit in
       (omega arith, omega arith, omega arith)
 
-  -- picks stop at the limit, the end of the order or when finished, whichever is first: each that is taken finds a state that isn't finished
+  -- picks stop at the limit, the end of the order or when finished, whichever is first: each one taken finds a state that isn't finished
   pub own-taken : (limit : ℕ)
       → (((reached p limit) .picks ≡ min limit (length (picksOfAll (p .workers) (p .orders))))
       ⊎ (finished (setupOf p) (reached p limit) ≡ true))

@@ -47,7 +47,7 @@ repeats (a ∷ xs) = not (every (λ b. not (eqb (a .address) (b .address))) xs) 
 abbrev pub workersLine : Plan → ℕ → Line
 workersLine p n = line (ask (atStart p) Misplaced ∷ ask (within 1 32 n) OutOfRange ∷ []) (withWorkers p n)
 
--- T: before all order lines
+-- T: before all order lines; nothing is asked of its label, which may repeat
 abbrev pub taskLine : Plan → Task → Line
 taskLine p t =
     line

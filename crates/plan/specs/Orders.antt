@@ -14,7 +14,7 @@ unfoldable pub times : ℕ → List ℕ → List ℕ
 times zero xs = []
 times (suc n) xs = xs ++ times n xs
 
--- the state that follows a generator's state
+-- the state that follows a state of the generator
 abbrev pub nextState : ℕ → ℕ
 nextState x = (x * 6364136223846793005 + 1442695040888963407) % 2 ^ 64
 
@@ -23,6 +23,7 @@ unfoldable pub seededPicks : ℕ → ℕ → ℕ → List ℕ
 seededPicks W x zero = []
 seededPicks W x (suc n) = (nextState x / 2 ^ 32 % W) ∷ seededPicks W (nextState x) n
 
+-- an order line: that worker n times; workers 0 to W - 1 once each in turn, n rounds; n seeded picks, after the seed
 abbrev pub picksOf : ℕ → Order → List ℕ
 picksOf W (picks worker n) = replicate n worker
 picksOf W (rounds n) = times n (numbersFrom 0 W)

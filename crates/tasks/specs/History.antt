@@ -1,5 +1,6 @@
--- What a worker may do with the tasks, what that makes of them, and histories of such operations. Where a device keeps the tasks
--- that it was given is its own matter: it holds out or receives only what it was given.
+-- What a worker may do with the tasks, what that makes of them, and histories of such operations. A device is what hands the ready tasks
+-- to the workers: the paper's is the lock, with queues, ready list and cells. Where it keeps the tasks that it was given is its own matter:
+-- it holds out or has received only what it was given.
 use Prim.Native.Nat.{ℕ, zero, suc, _+_, _-_, _≤_, _<_}
 use mathlib.Core.Path.{_≡_}
 use mathlib.Core.Bool.{Bool, true, false, _&&_, _||_}
@@ -24,16 +25,17 @@ pub data Duty : Type 0 where
   closes : (task : ℕ) → Duty
   -- the oldest message is delivered; those left
   delivers : Message → List Message → Duty
-  -- an access is told of the flags passed
+  -- the notice: the access that sent a pass message is told of the flags passed
   tells : ℕ → Flags → Duty
+  -- a step of work, with so many left, and the step that ends the task
   works : (task left : ℕ) → Duty
   ends : (task : ℕ) → Duty
 
 pub data Op : Type 0 where
   minds : Duty → Op
-  -- the oldest task to add is given to the device; those left
+  -- the oldest task to add is given to the device (by a push); those left
   gives : ℕ → List ℕ → Op
-  -- the device holds a task out to a worker
+  -- the device holds a task out to a worker (in a cell)
   holds : (task : ℕ) → Op
   -- a task is received: from the device itself, or one that it held out
   takes : (task : ℕ) → Op

@@ -23,12 +23,12 @@ pub record Message : Type 0 where
 -- where a worker stands with the tasks
 pub data Stand : Type 0 where
   free : Stand
-  -- it has delivered a pass message: the sender is to be told of these flags
+  -- it has delivered a pass message and has its notice to give: the sender is to be told of these flags
   telling : ℕ → Flags → Stand
   -- it has a task in hand, with so many steps of work left
   working : ℕ → ℕ → Stand
 
--- what has become of a task
+-- what has become of a task, the paper's states: new, waiting (opened), ready (count 0), held (in a cell), run, over
 pub data Status : Type 0 where
   new : Status
   waiting : Status
