@@ -7,8 +7,9 @@
  * Every function takes any values. What a pointer and its length name must be
  * there for the call, and no two arguments of a call may overlap; a pointer
  * whose length is 0 may be anything but NULL. No function keeps a pointer,
- * takes memory or has state of its own, so calls with different buffers may
- * run at the same time.
+ * takes memory from the heap or has state of its own, so calls with different
+ * buffers may run at the same time. salfunye_run needs up to 400,000 bytes of
+ * stack, the other functions less than 1,000.
  */
 #ifndef SALFUNYE_H
 #define SALFUNYE_H
@@ -85,7 +86,9 @@ struct salfunye_ran salfunye_run(const uint8_t *text, size_t text_length, uint64
  * one to let in. A ring needs at least as many slots as workers.
  *
  * A function refuses what it has no room for or what would pass 2^64 - 1, and
- * changes nothing then: `ok` is 0, `kind` is 0, or the answer is false.
+ * changes nothing then: `ok` is 0, `kind` is 0, or the answer is false. With it
+ * `head` and `tail` are as they were given, but 0 from salfunye_lock_start, and
+ * `ticket` and `value` are 0. salfunye_lock_is_free refuses nothing.
  */
 
 struct salfunye_lock_ends {

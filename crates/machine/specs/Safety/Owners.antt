@@ -1,11 +1,11 @@
 -- Who is shown as the owner owns the lock by the lock's own word: from the look or try that wins until it hands over and leaves.
 use Prim.Native.Nat.{ℕ, _<_}
 use mathlib.Core.Path.{_≡_, refl, ap, _∙_}
-use mathlib.Core.Logic.{_↔_, inl, inr, ⊎-elim}
+use mathlib.Core.Logic.{_↔_, inl, inr, ⊎-elim, _≢_}
 use mathlib.Core.Bool.{Bool, true, false}
 use mathlib.Core.List.{List}
 use mathlib.Core.Option.{Option, none, some}
-use Rattle.runs.specs.Update.{upd-same, clash}
+use Rattle.runs.specs.Update.{upd-same, upd-other, clash}
 use Rattle.runs.specs.Searches.{last-below, last-passes, last-only}
 use Rattle.runs.specs.Picks.{Picks}
 use Rattle.lock.specs.Lock as L
@@ -73,8 +73,12 @@ by-move : (c : Setup) (s : State) (w : ℕ) {o : Option LH.Op} {p : Place} → L
 by-move c s w (aside e) = ap isOwner e
 by-move c s w (operates op can e) = ap isOwner e ∙ by-operation can
 
--- at every state: only its own steps change whether a worker owns
+-- the step of worker w, at every state: by it w owns or not, and any other worker owns as before
 pub owns-after : (c : Setup) (s : State) (w : ℕ)
-    → isOwner (lockStand ((step c s w) .place w)) ≡ ownsAfter (isOwner (lockStand (s .place w))) (lockOp (event c s w))
+    → (isOwner (lockStand ((step c s w) .place w)) ≡ ownsAfter (isOwner (lockStand (s .place w))) (lockOp (event c s w)))
+    × ((v : ℕ) → v ≢ w → isOwner (lockStand ((step c s w) .place v)) ≡ isOwner (lockStand (s .place v)))
 unfolding step
-owns-after c s w = simp upd-same (by-move c (picked s) w (lock-move c (picked s) w (does-step c s w)))
+owns-after c s w = (
+  simp upd-same (by-move c (picked s) w (lock-move c (picked s) w (does-step c s w))),
+  λ v n. ap (λ p. isOwner (lockStand p)) (upd-other (s .place) w _ v n),
+)
