@@ -1,6 +1,6 @@
 -- A line by its letter: the fields after it say what the line is. Assumes nothing.
 use Prim.Native.Nat.{ℕ, _+_, _≤_}
-use mathlib.Core.Path.{_≡_, refl, ap, _∙_}
+use mathlib.Core.Path.{_≡_, refl}
 use mathlib.Core.Bool.{Bool, true, false, cond}
 use mathlib.Core.List.{List, [], _∷_}
 use mathlib.Core.Logic.{_≢_}
@@ -9,55 +9,15 @@ use native.Mathlib.Omega.{arith}
 use lib.ListN.{length, drop, getD}
 use borrow.Author.Tests.{ne-eqb}
 use Rattle.text.specs.Text.{tab}
-use Rattle.text.specs.Fields.{NONE, First, unended, first, behind, firstLine, goesOn, Fields}
+use Rattle.text.specs.Fields.{NONE, First, unended, first, firstLine, Fields}
 use Rattle.text.specs.FieldLaws.{byte-within, fields-letter, letter-of, letter-alone}
 use Rattle.plan.specs.Plan.{Plan}
 use Rattle.plan.specs.Line as plans
 use Rattle.plan.specs.Line.{'P', 'R', 'S', 'T', 'W', labelAndCost, taskLine, lineBy, lineOfFields}
 use Rattle.lines.specs.declared.line.Line.{Line}
 use Rattle.lines.specs.Lines.{wrongLine, Formless, Whole, TaskHead, begun, LineAt, whole, task}
-use Rattle.lines.specs.Lines.Whole.{malformed, formed}
-
--- ---- a line after its first field
-
-module _ {text : List ℕ} {at : ℕ} {x : List ℕ} {then : ℕ} (so : Fields text at (x ∷ []) then true) where
-  after-first : (gs : List (List ℕ)) (more : Bool) (rest : List ℕ) → behind (x ∷ []) (goesOn gs more rest) ≡ goesOn (x ∷ gs) more rest
-  after-first gs false rest = refl
-  after-first gs true rest = by (firstLine rest)
-    where
-      by : (l : First) → behind (x ∷ []) (behind gs l) ≡ behind (x ∷ gs) l
-      by unended = refl
-      by (first hs after) = refl
-
-  fields-after : {gs : List (List ℕ)} {next : ℕ} {more : Bool} → Fields text then gs next more → Fields text at (x ∷ gs) next more
-  fields-after {gs} {next} {more} fields =
-      record {
-        on = omega (arith, so .on, fields .on);
-        within = fields .within;
-        line = so .line ∙ ap (behind (x ∷ [])) (fields .line) ∙ after-first gs more (drop next text);
-      }
-
-  module _ (form all : List (List ℕ) → Option plans.Line) (e : (fs : List (List ℕ)) → all (x ∷ fs) ≡ form fs) where
-    formless-after : Formless form (firstLine (drop then text)) → Formless all (firstLine (drop at text))
-    formless-after h = rw (so .line) (by (firstLine (drop then text)) h)
-      where
-        by : (l : First) → Formless form l → Formless all (behind (x ∷ []) l)
-        by unended h = tt
-        by (first fs rest) h = e fs ∙ h
-
-    whole-after : {p : Plan} {r : Line} → Whole text then p form r → Whole text at p all r
-    whole-after (malformed wrong h) = malformed wrong (formless-after h)
-    whole-after (formed f) =
-        formed (record {
-          l = f .l;
-          fs = x ∷ f .fs;
-          formed = e (f .fs) ∙ f .formed;
-          fields = fields-after (f .fields);
-          ended = f .ended;
-          whole = f .whole;
-          judged = f .judged;
-          makes = f .makes;
-        })
+use Rattle.lines.specs.Lines.Whole.{malformed}
+use Rattle.lines.proofs.Wholes.{fields-after, formless-after, whole-after}
 
 -- ---- a letter and a tab
 

@@ -3,7 +3,7 @@ use Prim.Native.Nat.{ℕ, _+_, _*_, _^_, _≤_, _<_}
 use mathlib.Core.Path.{_≡_, refl, sym, ap, _∙_}
 use mathlib.Core.Bool.{Bool, true, false, not, _&&_, _||_, Bool·not-not}
 use mathlib.Core.List.{List, [], _∷_, _++_, append-assoc, append-nil}
-use mathlib.Core.Option.{Option, none, some}
+use mathlib.Core.Option.{Option, none, some, Option·map}
 use native.Mathlib.Omega.{arith}
 use lib.Dec.{eqb, leb, ltb}
 use lib.ListN.{length, drop}
@@ -15,11 +15,11 @@ use Rattle.text.specs.Text.{within, numberOf}
 use Rattle.runs.specs.Tests.{ways, both-left, both-right, not-both}
 use Rattle.runs.specs.Update.{clash}
 use Rattle.text.specs.Fields.{Cut, endless, cut, fieldOf, answer, asNumber, numberBy, clipped, fitsIn}
-use Rattle.text.specs.Fields.{First, unended, first, behind, firstLine, Fields}
+use Rattle.text.specs.Fields.{First, unended, first, behind, firstLine, goesOn, Fields}
 use Rattle.text.specs.FieldLaws.{fields-none, fields-more, fields-endless}
-use Rattle.plan.specs.Plan.{Order, picks, rounds, seeded, Plan}
+use Rattle.plan.specs.Plan.{Order, picks, seeded, Plan}
 use Rattle.plan.specs.Line as plans
-use Rattle.plan.specs.Line.{ask, atStart, workersLine, orderLine, picksLine, roundsLine, seededLine, oneNumber, withBoth, twoNumbers}
+use Rattle.plan.specs.Line.{ask, atStart, workersLine, orderLine, oneNumber, withBoth, twoNumbers}
 use Rattle.plan.specs.Reading.{firstRefusal}
 use Rattle.kept.specs.Layout as layout
 use Rattle.kept.specs.Orders.{codeOf, seedOf}
@@ -29,7 +29,7 @@ use Rattle.lines.specs.declared.line.Kind.the-variants as kinds
 use Rattle.lines.specs.declared.line.Sofar.{Sofar}
 use Rattle.lines.specs.declared.line.Line.{Line}
 use Rattle.lines.specs.Lines.{Sums, faultOf, faultIn, firstFault, wrongLine}
-use Rattle.lines.specs.Lines.{Formless, Makes, IsWhole, Whole, malformed, formed, Ordered}
+use Rattle.lines.specs.Lines.{Formless, Makes, IsWhole, Whole, malformed, formed, Ordered, Coded, countLine}
 
 -- ---- fields after which a line is of no form, whatever follows
 
@@ -53,6 +53,47 @@ module _ (form : List (List ℕ) → Option plans.Line) (text : List ℕ) (at : 
       by : (k : Cut) → fieldOf (drop next text) ≡ k → Formless form (firstLine (drop at text))
       by endless e = rw (fields-endless so e) tt
       by (cut x more rest) e = formless more (fields-more so x more rest e) (λ gs. rw append-assoc (h x more rest e gs))
+
+-- ---- a line after its first field
+
+module _ {text : List ℕ} {at : ℕ} {x : List ℕ} {then : ℕ} (so : Fields text at (x ∷ []) then true) where
+  after-first : (gs : List (List ℕ)) (more : Bool) (rest : List ℕ) → behind (x ∷ []) (goesOn gs more rest) ≡ goesOn (x ∷ gs) more rest
+  after-first gs false rest = refl
+  after-first gs true rest = by (firstLine rest)
+    where
+      by : (l : First) → behind (x ∷ []) (behind gs l) ≡ behind (x ∷ gs) l
+      by unended = refl
+      by (first hs after) = refl
+
+  pub fields-after : {gs : List (List ℕ)} {next : ℕ} {more : Bool} → Fields text then gs next more → Fields text at (x ∷ gs) next more
+  fields-after {gs} {next} {more} fields =
+      record {
+        on = omega (arith, so .on, fields .on);
+        within = fields .within;
+        line = so .line ∙ ap (behind (x ∷ [])) (fields .line) ∙ after-first gs more (drop next text);
+      }
+
+  module _ (form all : List (List ℕ) → Option plans.Line) (e : (fs : List (List ℕ)) → all (x ∷ fs) ≡ form fs) where
+    pub formless-after : Formless form (firstLine (drop then text)) → Formless all (firstLine (drop at text))
+    formless-after h = rw (so .line) (by (firstLine (drop then text)) h)
+      where
+        by : (l : First) → Formless form l → Formless all (behind (x ∷ []) l)
+        by unended h = tt
+        by (first fs rest) h = e fs ∙ h
+
+    pub whole-after : {p : Plan} {r : Line} → Whole text then p form r → Whole text at p all r
+    whole-after (malformed wrong h) = malformed wrong (formless-after h)
+    whole-after (formed f) =
+        formed (record {
+          l = f .l;
+          fs = x ∷ f .fs;
+          formed = e (f .fs) ∙ f .formed;
+          fields = fields-after (f .fields);
+          ended = f .ended;
+          whole = f .whole;
+          judged = f .judged;
+          makes = f .makes;
+        })
 
 -- ---- a number that was read after fields of a line
 
@@ -120,13 +161,15 @@ module _ (make : ℕ → ℕ → plans.Line) (x : List ℕ) where
   two-none e (y ∷ []) = rw e
   two-none e (y ∷ g ∷ gs) = refl
 
-  no-second : (v : Option ℕ) → withBoth make v none ≡ none
-  no-second none = refl
-  no-second (some v) = refl
-
-  second-none : (y : List ℕ) → numberOf y ≡ none → (gs : List (List ℕ)) → twoNumbers make (x ∷ y ∷ gs) ≡ none
-  second-none y e [] = rw e (no-second (numberOf x))
-  second-none y e (g ∷ gs) = refl
+  -- after the first number, the form of the second
+  second-form : (v : ℕ) → numberOf x ≡ some v → (gs : List (List ℕ)) → twoNumbers make (x ∷ gs) ≡ oneNumber (make v) gs
+  second-form v e [] = refl
+  second-form v e (y ∷ []) = rw e (by (numberOf y))
+    where
+      by : (o : Option ℕ) → withBoth make (some v) o ≡ Option·map (make v) o
+      by none = refl
+      by (some n) = refl
+  second-form v e (y ∷ g ∷ gs) = refl
 
 -- lines that are not of their form, by what was read of them
 module _ (text : List ℕ) (at : ℕ) (in-text : at ≤ length text) (p : Plan) {r : Line} (wrong : r ≡ wrongLine) where
@@ -150,17 +193,6 @@ module _ (text : List ℕ) (at : ℕ) (in-text : at ≤ length text) (p : Plan) 
 
     pub two-ends : {value : ℕ} {fits : Bool} {next : ℕ} → Told text at [] value fits next false → Whole text at p (twoNumbers make) r
     two-ends t = malformed wrong (rw (t .fields .line))
-
-    module _ {value : ℕ} {fits : Bool} {then : ℕ} (t : Told text at [] value fits then true) where
-      pub second-untold : (n : Number) → n ≡ asNumber then (fieldOf (drop then text)) → n ≡ numbers.Malformed
-          → Whole text at p (twoNumbers make) r
-      second-untold n e is =
-          malformed wrong
-          (formless-next (twoNumbers make) text at (t .fields)
-          (λ y more rest q. second-none make (t .digits) y (number-untold (t .fields) n e is y more rest q)))
-
-      pub two-goes-on : {v : ℕ} {f : Bool} {next : ℕ} → Told text at (t .digits ∷ []) v f next true → Whole text at p (twoNumbers make) r
-      two-goes-on u = malformed wrong (formless-next (twoNumbers make) text at (u .fields) (λ x more rest q gs. refl))
 
 -- ---- ranges of a number are those of what 64 bits hold of it
 
@@ -246,11 +278,11 @@ module _ {text : List ℕ} {at : ℕ} {p : Plan} {r : Line} where
       → Judged p (make (t .number)) next r → Whole text at p (oneNumber make) r
   one-formed make t = so-formed (oneNumber make) (make (t .number)) (t .digits ∷ []) (rw (t .says)) (t .fields)
 
+  -- the second of two numbers, read after the first
   pub two-formed : (make : ℕ → ℕ → plans.Line) {value : ℕ} {fits : Bool} {then : ℕ} (t : Told text at [] value fits then true)
-      {v : ℕ} {f : Bool} {next : ℕ} (u : Told text at (t .digits ∷ []) v f next false)
-      → Judged p (make (t .number) (u .number)) next r → Whole text at p (twoNumbers make) r
-  two-formed make t u =
-      so-formed (twoNumbers make) (make (t .number) (u .number)) (t .digits ∷ u .digits ∷ []) (rw (t .says, u .says)) (u .fields)
+      → Whole text then p (oneNumber (make (t .number))) r → Whole text at p (twoNumbers make) r
+  two-formed make t =
+      whole-after (t .fields) (oneNumber (make (t .number))) (twoNumbers make) (second-form make (t .digits) (t .number) (t .says))
 
 module _ (s : Sofar) (p : Plan) (sums : Sums s p) (next : ℕ) where
   -- the workers, as 64 bits hold them
@@ -270,13 +302,14 @@ module _ (s : Sofar) (p : Plan) (sums : Sums s p) (next : ℕ) where
             (rw (is, low .0), rw (is, low .0) (low .1));
       }
 
-  -- an order line whose numbers are in range
-  module _ (out : Bool) {r : Line} {code seed : ℕ} (o : Ordered (firstFault (eqb (s .workers) 0) out) code seed next r) where
+-- an order line, where the place of a line is told
+module _ (p : Plan) (misplaced : Bool) (at-start : misplaced ≡ atStart p) (next : ℕ) where
+  module _ (out : Bool) {r : Line} {code seed : ℕ} (o : Ordered (firstFault misplaced out) code seed next r) where
     order-judged : (range : Bool) (order : Order) → out ≡ not range → (range ≡ true → (codeOf order ≡ code) × (seedOf order ≡ seed))
         → Judged p (orderLine p range order) next r
     order-judged range order is kept =
-        let fault : firstFault (eqb (s .workers) 0) out ≡ faultIn (orderLine p range order) =
-        fault-is (not (atStart p)) range (eqb (s .workers) 0) out (rw (sums .workers) (sym (Bool·not-not (atStart p)))) is in
+        let fault : firstFault misplaced out ≡ faultIn (orderLine p range order) =
+        fault-is (not (atStart p)) range misplaced out (at-start ∙ sym (Bool·not-not (atStart p))) is in
         record {
           after = o .after;
           ended = o .ended;
@@ -288,30 +321,29 @@ module _ (s : Sofar) (p : Plan) (sums : Sums s p) (next : ℕ) where
               rw (o .kind) (order, refl, is-kept .0 ∙ sym (tells .0), is-kept .1 ∙ sym (tells .1));
         }
 
-  pub rounds-judged : (m n : ℕ) (out : Bool) {r : Line} → n ≡ clipped m → out ≡ not (within 1 1000000 n)
-      → Ordered (firstFault (eqb (s .workers) 0) out) (n * layout.who + layout.inTurn) 0 next r → Judged p (roundsLine p m) next r
-  rounds-judged m n out is range o =
-      order-judged out o (within 1 1000000 m) (rounds m) (range ∙ out-of m n 1000000 is (omega arith))
-      (λ h. let same : n ≡ m = is ∙ within-low m 1 1000000 (omega arith) h .0 in (rw same, refl))
-
-  pub picks-judged : s .workers ≤ 32 → (v w m n : ℕ) (above far out : Bool) {r : Line} → w ≡ clipped v → n ≡ clipped m
-      → above ≡ leb (s .workers) w → far ≡ not (within 1 4096 n) → out ≡ (above || far)
-      → Ordered (firstFault (eqb (s .workers) 0) out) (n * layout.who + w) 0 next r → Judged p (picksLine p v m) next r
-  picks-judged few v w m n above far out who is a f e o =
-      let high : above ≡ not (ltb v (p .workers)) = rw (a, who, ← sums .workers) (above-clipped v (s .workers) (omega arith)) in
-      order-judged out o (ltb v (p .workers) && within 1 4096 m) (picks v m)
-      (rw (e, high, f ∙ out-of m n 4096 is (omega arith)) (not-both (ltb v (p .workers)) (within 1 4096 m)))
+  pub count-judged : (inRange : Bool) (most : ℕ) (order : ℕ → Order) (m n who : ℕ) (before far out : Bool) {seed : ℕ} {r : Line}
+      → most ≤ 1000000 → n ≡ clipped m → before ≡ not inRange → far ≡ not (within 1 most n) → out ≡ (before || far)
+      → (inRange ≡ true → Coded order who seed) → Ordered (firstFault misplaced out) (n * layout.who + who) seed next r
+      → Judged p (countLine p inRange most order m) next r
+  count-judged inRange most order m n who before far out small is b f e coded o =
+      order-judged out o (inRange && within 1 most m) (order m)
+      (rw (e, b, f ∙ out-of m n most is (omega arith)) (not-both inRange (within 1 most m)))
       (λ h.
-      let low : v < p .workers = ltb-true v (p .workers) (both-left (ltb v (p .workers)) (within 1 4096 m) h) in
-      let same : n ≡ m = is ∙ within-low m 1 4096 (omega arith) (both-right (ltb v (p .workers)) (within 1 4096 m) h) .0 in
-      (rw (same, who, low-clipped v (omega (arith, sums .workers))), refl))
+      let same : n ≡ m = is ∙ within-low m 1 most (omega arith) (both-right inRange (within 1 most m) h) .0 in
+      rw same (coded (both-left inRange (within 1 most m) h) m))
 
-  pub seeded-judged : (v seed m n : ℕ) (fits far out : Bool) {r : Line} → seed ≡ clipped v → fits ≡ fitsIn v → n ≡ clipped m
-      → far ≡ not (within 1 1000000 n) → out ≡ (not fits || far)
-      → Ordered (firstFault (eqb (s .workers) 0) out) (n * layout.who + layout.bySeed) seed next r → Judged p (seededLine p v m) next r
-  seeded-judged v seed m n fits far out holds fit is f e o =
-      order-judged out o (fitsIn v && within 1 1000000 m) (seeded v m)
-      (rw (e, fit, f ∙ out-of m n 1000000 is (omega arith)) (not-both (fitsIn v) (within 1 1000000 m)))
-      (λ h.
-      let same : n ≡ m = is ∙ within-low m 1 1000000 (omega arith) (both-right (fitsIn v) (within 1 1000000 m) h) .0 in
-      (rw same, sym (holds ∙ fits-clipped v (both-left (fitsIn v) (within 1 1000000 m) h))))
+pub none-yet : {s : Sofar} {p : Plan} → Sums s p → eqb (s .workers) 0 ≡ atStart p
+none-yet sums = rw (sums .workers)
+
+-- a worker, as 64 bits hold it
+module _ (s : Sofar) (p : Plan) (sums : Sums s p) (few : s .workers ≤ 32) (v w : ℕ) (is : w ≡ clipped v) where
+  pub worker-range : leb (s .workers) w ≡ not (ltb v (p .workers))
+  worker-range = rw (is, ← sums .workers) (above-clipped v (s .workers) (omega arith))
+
+  pub worker-coded : ltb v (p .workers) ≡ true → Coded (picks v) w 0
+  worker-coded h n =
+      let low : v < p .workers = ltb-true v (p .workers) h in
+      (rw (is, low-clipped v (omega (arith, sums .workers))), refl)
+
+pub seed-coded : (v seed : ℕ) → seed ≡ clipped v → fitsIn v ≡ true → Coded (seeded v) layout.bySeed seed
+seed-coded v seed is h n = (refl, sym (is ∙ fits-clipped v h))

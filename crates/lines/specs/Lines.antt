@@ -1,20 +1,20 @@
 -- The code's view of one line: what is answered for its fields.
-use Prim.Native.Nat.{ℕ, _+_, _≤_}
+use Prim.Native.Nat.{ℕ, _+_, _*_, _≤_}
 use mathlib.Core.Path.{_≡_}
-use mathlib.Core.Bool.{Bool, true, false, not, _||_}
+use mathlib.Core.Bool.{Bool, true, false, not, _&&_, _||_}
 use mathlib.Core.List.{List, [], _∷_}
 use mathlib.Core.Option.{Option, none, some}
 use lib.ListN.{length, drop}
 use lib.Dec.{leb}
 use Rattle.refusals.specs.declared.Refusal.{Refusal}
 use Rattle.refusals.specs.declared.Refusal.the-variants.{Malformed, OutOfRange, Misplaced}
-use Rattle.text.specs.Text.{numberOf}
+use Rattle.text.specs.Text.{within, numberOf}
 use Rattle.text.specs.Fields.{First, unended, first, firstLine, Fields, clipped}
 use Rattle.plan.specs.Plan.{Task, Order, Plan, withWorkers, withOrder}
 use Rattle.plan.specs.Line as plans
-use Rattle.plan.specs.Line.{'T', ask, atStart, hasOrders, isLabel, labelAndCost, taskLine, lineOfFields}
+use Rattle.plan.specs.Line.{'T', ask, atStart, hasOrders, isLabel, labelAndCost, orderLine, taskLine, lineOfFields}
 use Rattle.plan.specs.Reading.{firstRefusal}
-use Rattle.kept.specs.Layout.{mostTaskAccesses}
+use Rattle.kept.specs.Layout as layout
 use Rattle.kept.specs.Tasks.{Placed, spare, rowOf, Labelled}
 use Rattle.kept.specs.Orders.{codeOf, seedOf}
 use Rattle.lines.specs.declared.line.Fault.{Fault}
@@ -89,6 +89,14 @@ pub record Ordered (fault : Fault) (code seed next : ℕ) (r : Line) : Type 0 wh
   pub judged : r .fault ≡ fault
   pub tells : fault ≡ Nothing → (r .first ≡ code) × (r .second ≡ seed)
 
+-- what is kept of the order of each count: who is picked, and the seed
+abbrev pub Coded : (ℕ → Order) → ℕ → ℕ → Type 0
+Coded order who seed = (n : ℕ) → (codeOf (order n) ≡ n * layout.who + who) × (seedOf (order n) ≡ seed)
+
+-- the order line of each count, where the number before it is in range or not
+abbrev pub countLine : Plan → Bool → ℕ → (ℕ → Order) → ℕ → plans.Line
+countLine p inRange most order n = orderLine p (inRange && within 1 most n) (order n)
+
 -- ---- a task's line, of which label and cost are read
 
 -- a task whose label stands at a place, without accesses
@@ -97,7 +105,7 @@ bare at label cost = record { at = at; task = record { label = label; cost = cli
 
 -- the row of a task whose label stands at a place and has so many bytes, without accesses
 abbrev pub bareRow : ℕ → ℕ → ℕ → List ℕ
-bareRow at size cost = at ∷ size ∷ cost ∷ 0 ∷ spare mostTaskAccesses
+bareRow at size cost = at ∷ size ∷ cost ∷ 0 ∷ spare layout.mostTaskAccesses
 
 -- the fault of its place and its cost
 abbrev pub headFault : Plan → ℕ → Fault

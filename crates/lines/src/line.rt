@@ -1,14 +1,13 @@
 // One line: a function for each kind reads its fields and judges them, in the order of the refusals.
 ghost use mathlib.Core.Path.{_≡_};
-ghost use mathlib.Core.Bool.{false, not, _||_};
-ghost use Prim.Native.Nat.{_+_, _*_, _≤_, _<_};
-ghost use lib.Dec.{eqb};
+ghost use mathlib.Core.Bool.{Bool, true, false, not, _||_};
+ghost use Prim.Native.Nat.{ℕ, _+_, _*_, _≤_, _<_};
 ghost use lib.ListN.{length};
 ghost use Rattle.text.specs.Text.{within};
-ghost use Rattle.plan.specs.Plan.{Plan};
-ghost use Rattle.plan.specs.Line.{oneNumber, twoNumbers, workersLine, roundsLine, picksLine, seededLine};
+ghost use Rattle.plan.specs.Plan.{Order, Plan};
+ghost use Rattle.plan.specs.Line.{oneNumber, twoNumbers, atStart, workersLine, roundsLine, picksLine, seededLine};
 ghost use Rattle.kept.specs.Layout as lay;
-ghost use Rattle.lines.specs.Lines.{Sums, wrongLine, firstFault, Whole, Ordered, bareRow, TaskHead, LineAt};
+ghost use Rattle.lines.specs.Lines.{Sums, wrongLine, firstFault, Whole, Ordered, Coded, countLine, bareRow, TaskHead, LineAt};
 use kept::layout;
 use plan::field::Label;
 use plan::field::read_label;
@@ -145,11 +144,11 @@ fn workers_line(text: &[u8], at: usize, sofar: Sofar) -> Line
 }
 
 // An order line: the count, who is picked, and the seed.
-fn order_line(n: u64, who: u64, seed: u64, out: bool, sofar: Sofar, next: usize) -> Line
+fn order_line(n: u64, who: u64, seed: u64, misplaced: bool, out: bool, next: usize) -> Line
     requires { ⌜ (out ≡ false → (n ≤ 1000000) × (who < lay.who)) ⌝ }
-    ensures { λ r. ⌜ Ordered (firstFault (eqb (sofar .workers) 0) out) (n * lay.who + who) seed next r ⌝ }
+    ensures { λ r. ⌜ Ordered (firstFault misplaced out) (n * lay.who + who) seed next r ⌝ }
 {
-    let fault = first_fault(sofar.workers == 0, out);
+    let fault = first_fault(misplaced, out);
     if let Fault::Is(_) = fault {
         return Line {
             kind: Kind::Order,
@@ -170,10 +169,20 @@ fn order_line(n: u64, who: u64, seed: u64, out: bool, sofar: Sofar, next: usize)
     }
 }
 
-// R: rounds.
-fn rounds_line(text: &[u8], at: usize, sofar: Sofar) -> Line
-    requires { ⌜ at ≤ length (now text) ⌝ }
-    ensures { λ r. ⌜ ((p : Plan) → Sums sofar p → Whole (now (text .entry)) at p (oneNumber (roundsLine p)) r) ⌝ }
+// The count of an order line, which ends it: 1 to `most`. `out` says whether a number before it is out of range.
+fn count_line(
+    text: &[u8],
+    at: usize,
+    most: u64,
+    who: u64,
+    seed: u64,
+    misplaced: bool,
+    out: bool,
+) -> Line
+    requires { ⌜ (at ≤ length (now text)) × (most ≤ 1000000) × (out ≡ false → who < lay.who) ⌝ }
+    ensures { λ r. ⌜ ((p : Plan) (inRange : Bool) (order : ℕ → Order) → misplaced ≡ atStart p → out ≡ not inRange
+        → (inRange ≡ true → Coded order who seed)
+        → Whole (now (text .entry)) at p (oneNumber (countLine p inRange most order)) r) ⌝ }
 {
     match read_number(text, at) {
         Number::Malformed => wrong(),
@@ -186,16 +195,19 @@ fn rounds_line(text: &[u8], at: usize, sofar: Sofar) -> Line
             if more {
                 return wrong();
             }
-            order_line(
-                n,
-                layout::IN_TURN,
-                0,
-                outside(1, MOST_ROUNDS, n),
-                sofar,
-                next,
-            )
+            let any_out = either(out, outside(1, most, n));
+            order_line(n, who, seed, misplaced, any_out, next)
         }
     }
+}
+
+// R: rounds.
+fn rounds_line(text: &[u8], at: usize, sofar: Sofar) -> Line
+    requires { ⌜ at ≤ length (now text) ⌝ }
+    ensures { λ r. ⌜ ((p : Plan) → Sums sofar p → Whole (now (text .entry)) at p (oneNumber (roundsLine p)) r) ⌝ }
+{
+    let misplaced = sofar.workers == 0;
+    count_line(text, at, MOST_ROUNDS, layout::IN_TURN, 0, misplaced, false)
 }
 
 // P: a worker, so many times.
@@ -208,27 +220,15 @@ fn picks_line(text: &[u8], at: usize, sofar: Sofar) -> Line
         Number::Is {
             value: worker,
             fits: _,
-            next: then,
-            more: goes_on,
+            next,
+            more,
         } => {
-            if !goes_on {
+            if !more {
                 return wrong();
             }
-            match read_number(text, then) {
-                Number::Malformed => wrong(),
-                Number::Is {
-                    value: n,
-                    fits: _,
-                    next,
-                    more,
-                } => {
-                    if more {
-                        return wrong();
-                    }
-                    let out = either(sofar.workers <= worker, outside(1, MOST_PICKS, n));
-                    order_line(n, worker, 0, out, sofar, next)
-                }
-            }
+            let misplaced = sofar.workers == 0;
+            let out = sofar.workers <= worker;
+            count_line(text, next, MOST_PICKS, worker, 0, misplaced, out)
         }
     }
 }
@@ -243,27 +243,22 @@ fn seeded_line(text: &[u8], at: usize, sofar: Sofar) -> Line
         Number::Is {
             value: seed,
             fits,
-            next: then,
-            more: goes_on,
+            next,
+            more,
         } => {
-            if !goes_on {
+            if !more {
                 return wrong();
             }
-            match read_number(text, then) {
-                Number::Malformed => wrong(),
-                Number::Is {
-                    value: n,
-                    fits: _,
-                    next,
-                    more,
-                } => {
-                    if more {
-                        return wrong();
-                    }
-                    let out = either(!fits, outside(1, MOST_SEEDED, n));
-                    order_line(n, layout::BY_SEED, seed, out, sofar, next)
-                }
-            }
+            let misplaced = sofar.workers == 0;
+            count_line(
+                text,
+                next,
+                MOST_SEEDED,
+                layout::BY_SEED,
+                seed,
+                misplaced,
+                !fits,
+            )
         }
     }
 }

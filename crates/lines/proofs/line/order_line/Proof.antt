@@ -2,7 +2,6 @@
 use mathlib.Core.Path.{refl}
 use native.Mathlib.Omega.{arith}
 use borrow.Author.Needs.{needs}
-use lib.Dec.{eqb}
 use Rattle.runs.specs.Update.{clash}
 use Rattle.lines.proofs.Wholes.{no-fault}
 use Rattle.lines.proofs.line.order_line.Statement.{statement}
@@ -27,19 +26,17 @@ returns c =
 enum-told-2 : tie.Need-enum-told-2
 enum-told-2 c = search needs
 
-mul-t11 : tie.Need-mul-t11
-mul-t11 c =
-    let start = c .before .before .before .before in
+mul-t10 : tie.Need-mul-t10
+mul-t10 c =
+    let start = c .before .before .before in
     let fault = c .before .before .first-fault in
-    let misplaced = eqb (start .args .sofar .workers) 0 in
-    omega (arith, start .pre (no-fault misplaced (start .args .out) (fault .result) (fault .ensures) (c .enum-told2 .given .1)))
+    omega (arith, start .pre (no-fault (start .args .misplaced) (start .args .out) (fault .result) (fault .ensures) (c .enum-told2 .given .1)))
 
-add-t12 : tie.Need-add-t12
-add-t12 c =
-    let start = c .before .before .before .before in
+add-t11 : tie.Need-add-t11
+add-t11 c =
+    let start = c .before .before .before in
     let fault = c .before .before .first-fault in
-    let misplaced = eqb (start .args .sofar .workers) 0 in
-    omega (arith, start .pre (no-fault misplaced (start .args .out) (fault .result) (fault .ensures) (c .enum-told2 .given .1)))
+    omega (arith, start .pre (no-fault (start .args .misplaced) (start .args .out) (fault .result) (fault .ensures) (c .enum-told2 .given .1)))
 
 returns-2 : tie.Need-returns-2
 returns-2 c = search needs
@@ -47,4 +44,4 @@ returns-2 c = search needs
 pub order-line-spec : {M : Type 1} → statement M
 order-line-spec =
     tie.close
-    (tie.spec first-fault-requires enum-told returns enum-told-2 mul-t11 add-t12 returns-2)
+    (tie.spec first-fault-requires enum-told returns enum-told-2 mul-t10 add-t11 returns-2)

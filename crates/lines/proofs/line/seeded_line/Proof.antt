@@ -1,12 +1,13 @@
--- `lines::line::seeded_line` meets its contract: by what was read of its numbers. Assumes nothing.
-use mathlib.Core.Path.{sym, _∙_}
+-- `lines::line::seeded_line` meets its contract: by what was read of its first number, before the count. Assumes nothing.
+use mathlib.Core.Path.{ap}
 use mathlib.Core.Bool.{not}
+use native.Mathlib.Omega.{arith}
 use borrow.Author.Needs.{needs}
 use borrow.Author.Tests.{not-true, not-false}
-use Rattle.runs.specs.Tests.{or-right}
+use Rattle.text.specs.Fields.{fitsIn}
+use Rattle.plan.specs.Plan.{seeded}
 use Rattle.plan.specs.Line.{seededLine}
-use Rattle.lines.proofs.Wholes.{first-told, number-told, two-untold, two-ends, second-untold, two-goes-on}
-use Rattle.lines.proofs.Wholes.{two-formed, seeded-judged, bounded}
+use Rattle.lines.proofs.Wholes.{first-told, two-untold, two-ends, two-formed, none-yet, seed-coded}
 use Rattle.lines.proofs.line.seeded_line.Statement.{statement}
 use Rattle.lines.proofs.line.seeded_line.Tie as tie
 
@@ -34,88 +35,32 @@ returns c p sums =
     (not-true _ (c .before .if1 .taken)) in
     two-ends (start .args .text .now) (start .args .at) (start .pre) p (c .wrong2 .ensures) (seededLine p) t
 
-read-number-requires-2 : tie.Need-read-number-requires-2
-read-number-requires-2 c κs =
-    let first = c .before .before in
+count-line-requires : tie.Need-count-line-requires
+count-line-requires c κs =
+    let first = c .before .before .before in
     let start = first .before .before .before .before in
     let read = first .before .before .read-number in
     let t = first-told (start .args .text .now) (start .args .at) (start .pre) (read .result) (read .ensures) (first .seed .given .1)
-    (not-false _ (c .if1 .left)) in
-    t .fields .within
-
-enum-told-2 : tie.Need-enum-told-2
-enum-told-2 c = search needs
-
-wrong-requires-3 : tie.Need-wrong-requires-3
-wrong-requires-3 c κs = search needs
-
-enum-known-n : tie.Need-enum-known-n
-enum-known-n c = search needs
-
-wrong-requires-4 : tie.Need-wrong-requires-4
-wrong-requires-4 c κs = search needs
+    (not-false _ (c .before .if1 .left)) in
+    (t .fields .within, omega arith, λ e. omega arith)
 
 returns-2 : tie.Need-returns-2
 returns-2 c p sums =
-    let second = c .before .before .before in
-    let first = second .before .before .before .before .before in
-    let start = first .before .before .before .before in
-    let read = first .before .before .read-number in
-    let t = first-told (start .args .text .now) (start .args .at) (start .pre) (read .result) (read .ensures) (first .seed .given .1)
-    (not-false _ (second .before .before .before .if1 .left)) in
-    let again = second .before .before .read-number2 in
-    let u = number-told (t .fields) (again .result) (again .ensures) (second .n .given .1) (c .before .if2 .taken) in
-    two-goes-on (start .args .text .now) (start .args .at) (start .pre) p (c .wrong4 .ensures) (seededLine p) t u
-
-outside-requires : tie.Need-outside-requires
-outside-requires c κs = search needs
-
-either-requires : tie.Need-either-requires
-either-requires c κs = search needs
-
-order-line-requires : tie.Need-order-line-requires
-order-line-requires c κs e =
-    let second = c .before .before .before .before in
-    let fits = second .before .before .before .before .before .seed .given .0 .1 .0 in
-    let far = c .before .outside in
-    let in-range = sym (c .either .ensures) ∙ e in
-    (bounded 1 1000000 (second .n .given .0 .0) (far .ensures) (or-right (not fits) (far .result) in-range), search needs)
-
-returns-3 : tie.Need-returns-3
-returns-3 c p sums =
     let start = c .before .before .before .before .before in
     let read = c .before .before .before .read-number in
     two-untold (start .args .text .now) (start .args .at) (start .pre) p (c .wrong .ensures) (seededLine p) (read .result) (read .ensures)
     (c .before .enum-told .given .1)
 
-returns-4 : tie.Need-returns-4
-returns-4 c p sums =
-    let first = c .before .before .before .before .before .before in
+returns-3 : tie.Need-returns-3
+returns-3 c p sums =
+    let first = c .before .before .before .before in
     let start = first .before .before .before .before in
     let read = first .before .before .read-number in
     let t = first-told (start .args .text .now) (start .args .at) (start .pre) (read .result) (read .ensures) (first .seed .given .1)
-    (not-false _ (c .before .before .before .before .if1 .left)) in
-    let again = c .before .before .before .read-number2 in
-    second-untold (start .args .text .now) (start .args .at) (start .pre) p (c .wrong3 .ensures) (seededLine p) t (again .result)
-    (again .ensures) (c .before .enum-told2 .given .1)
-
-returns-5 : tie.Need-returns-5
-returns-5 c p sums =
-    let second = c .before .before .before .before .before in
-    let first = second .before .before .before .before .before in
-    let start = first .before .before .before .before in
-    let read = first .before .before .read-number in
-    let t = first-told (start .args .text .now) (start .args .at) (start .pre) (read .result) (read .ensures) (first .seed .given .1)
-    (not-false _ (second .before .before .before .if1 .left)) in
-    let again = second .before .before .read-number2 in
-    let u = number-told (t .fields) (again .result) (again .ensures) (second .n .given .1) (c .before .before .before .if2 .left) in
-    let seed = first .seed .given .0 in
-    let n = second .n .given .0 in
-    let far = c .before .before .outside in
-    let out = c .before .either in
-    two-formed (seededLine p) t u
-    (seeded-judged (start .args .sofar) p sums (n .1 .1 .0) (t .number) (seed .0) (u .number) (n .0) (seed .1 .0) (far .result)
-    (out .result) (t .held) (t .whole) (u .held) (far .ensures) (out .ensures) (c .order-line .ensures))
+    (not-false _ (c .before .before .if1 .left)) in
+    two-formed (seededLine p) t
+    (c .count-line .ensures p (fitsIn (t .number)) (seeded (t .number)) (none-yet sums) (ap not (t .whole))
+    (seed-coded (t .number) (first .seed .given .0 .0) (t .held)))
 
 pub seeded-line-spec : {M : Type 1} → statement M
 seeded-line-spec =
@@ -127,15 +72,6 @@ seeded-line-spec =
     enum-known-seed
     wrong-requires-2
     returns
-    read-number-requires-2
-    enum-told-2
-    wrong-requires-3
-    enum-known-n
-    wrong-requires-4
+    count-line-requires
     returns-2
-    outside-requires
-    either-requires
-    order-line-requires
-    returns-3
-    returns-4
-    returns-5)
+    returns-3)
