@@ -10,7 +10,7 @@ pub mod Histories
 pub mod Turns
 pub mod Bounds
 pub mod Flags
-use Prim.Native.Nat.{ℕ, suc, _+_, _-_, _≤_, _<_}
+use Prim.Native.Nat.{ℕ, suc, _+_, _*_, _-_, _≤_, _<_}
 use native.Mathlib.Omega.{arith}
 use mathlib.Core.Path.{_≡_, refl, sym, ap, _∙_}
 use mathlib.Core.Logic.{_⊎_, inl, inr, ⊎-elim, _≢_}
@@ -33,8 +33,8 @@ use Rattle.machine.specs.State.{Setup, State, start}
 use Rattle.machine.specs.Event.{Event, event}
 use Rattle.machine.specs.Step.{taskOp, step, finished, pick, after}
 use Rattle.machine.specs.View.{Does, does}
-use Rattle.machine.specs.Trace.{Happening, trace, tally, isReceipt, isEnding}
-use Rattle.machine.specs.Whereabouts.{lockStand, stored, boxes, hands, places}
+use Rattle.machine.specs.Trace.{Happening, trace, tally, isReceipt, isEnding, isWork}
+use Rattle.machine.specs.Whereabouts.{lockStand, stored, boxes, hands, leftInHands, places}
 use Rattle.machine.specs.Safety.Traces.{pick-finished, pick-open, run-finished, run-inv, picks-taken, taken-within, taken-all}
 use Rattle.machine.specs.Safety.Histories as R
 use Rattle.machine.specs.Safety.Bounds.{Roomy, roomy-start, roomy-step, ready-length, Small, small-start, small-step}
@@ -143,6 +143,15 @@ module _ (c : Setup) (playable : Playable c) (ws : List ℕ) (p : Picks (c .work
     pub run-by-one : (after c ws) .tasks .status i ≡ over
         → (tally (isReceipt i) (trace c (start c) ws) ≡ 1) × (tally (isEnding i) (trace c (start c) ws) ≡ 1)
     run-by-one o = (R.receipts c playable ws p i ∙ ap isReceived o, R.endings c playable ws p i ∙ ap isEnded o)
+
+    -- for each receipt as many steps of work as the task costs: those that were done, and those that are left in the workers' hands
+    pub worked : tally (isWork i) (trace c (start c) ws) + leftInHands c (after c ws) i
+        ≡ tally (isReceipt i) (trace c (start c) ws) * taskAt (c .tasks) i .cost
+    worked = R.worked c playable ws p i
+
+    -- so a task that is over had exactly as many steps of work in the list as it costs
+    pub works-exactly : (after c ws) .tasks .status i ≡ over → tally (isWork i) (trace c (start c) ws) ≡ taskAt (c .tasks) i .cost
+    works-exactly = R.works-exactly c playable ws p i
 
   -- a task that is opened counts its unsatisfied accesses, plus one until it is closed
   pub counts-unsatisfied : (i : ℕ) → i < opened ((after c ws) .tasks .creation)

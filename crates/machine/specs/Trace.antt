@@ -27,6 +27,10 @@ isReceipt = P.isReceipt taskOp
 abbrev pub isEnding : ℕ → Event → ℕ
 isEnding = P.isEnding taskOp
 
+-- and for a step of work on it
+abbrev pub isWork : ℕ → Event → ℕ
+isWork = P.isWork taskOp
+
 -- of a flag, what comes to access a by a delivery or a notice
 abbrev pub brings : (Flags → ℕ) → ℕ → Event → ℕ
 brings = P.brings taskOp

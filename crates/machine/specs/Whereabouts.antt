@@ -7,7 +7,7 @@ use Rattle.runs.specs.Sums.{sum}
 use Rattle.runs.specs.Counts.{is, count}
 use Rattle.lock.specs.History as LH
 use Rattle.runs.specs.Searches.{lastBelow}
-use Rattle.tasks.specs.Tasks.{inHand, toAdd}
+use Rattle.tasks.specs.Tasks.{inHand, leftInHand, toAdd}
 use Rattle.machine.specs.State.{Setup, Place, idle, trying, registering, looking, draining, serving, handing, leaving, State}
 
 abbrev pub lockStand : Place → LH.Stand
@@ -54,6 +54,10 @@ module _ (c : Setup) (s : State) (i : ℕ) where
 
   abbrev pub hands : ℕ
   hands = sum (c .workers) (λ w. inHand i (s .stand w))
+
+  -- the steps of work that are left of it there
+  abbrev pub leftInHands : ℕ
+  leftInHands = sum (c .workers) (λ w. leftInHand i (s .stand w))
 
   -- in how many places task i stands
   abbrev pub places : ℕ

@@ -4,4 +4,5 @@ pub mod Reading
 pub mod Orders
 pub mod Accepted
 pub mod Refused
+pub mod TwoFaults
 pub mod PassFields

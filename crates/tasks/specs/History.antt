@@ -165,6 +165,16 @@ endsTask (tells a f) = none
 endsTask (works i n) = none
 endsTask (ends i) = some i
 
+-- the task that a duty works on
+abbrev worksOn : Duty → Option ℕ
+worksOn (opens i) = none
+worksOn (links i a) = none
+worksOn (closes i) = none
+worksOn (delivers m ms) = none
+worksOn (tells a f) = none
+worksOn (works i n) = some i
+worksOn (ends i) = none
+
 -- the verbs told apart by number
 abbrev verbNumber : Verb → ℕ
 verbNumber give = 0
@@ -210,6 +220,14 @@ isEnding i (gives j js) = 0
 isEnding i (holds j) = 0
 isEnding i (takes j) = 0
 isEnding i (receives j) = 0
+
+-- 1 where a step of work is done on it
+abbrev pub isWork : ℕ → Op → ℕ
+isWork i (minds d) = named i (worksOn d)
+isWork i (gives j js) = 0
+isWork i (holds j) = 0
+isWork i (takes j) = 0
+isWork i (receives j) = 0
 
 -- x where a and b are equal, else 0
 unfoldable pub here : ℕ → ℕ → ℕ → ℕ

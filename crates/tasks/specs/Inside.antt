@@ -16,3 +16,4 @@ pub mod Work
 pub mod Lists
 pub mod Histories
 pub mod Brought
+pub mod Worked

@@ -14,7 +14,7 @@ use Rattle.plan.specs.Orders.{numbersFrom}
 use Rattle.runs.specs.Searches.{lastBelow, firstFrom}
 use Rattle.tasks.specs.Accesses.{accesses, total, taskOf, first, reader, sameAddress, prev, next}
 use Rattle.tasks.specs.Flags.{flagNumber, passesRead, passesWrite, satisfied}
-use Rattle.tasks.specs.Tasks.{Stand, free, Status, waiting, ready, running, over, Tasks}
+use Rattle.tasks.specs.Tasks.{Stand, free, working, Status, waiting, ready, running, over, Tasks}
 use Rattle.tasks.specs.Tasks as T
 use Rattle.tasks.specs.History.{Duty, Op, minds, gives, holds, takes, receives, lowered, linkMessage, passed, doneMessages, after}
 use Rattle.tasks.specs.History.{standAfter}
@@ -76,9 +76,12 @@ step ts s w = acted ts s w (chooses ts s w)
 
 -- ---- what is played
 
+abbrev pub costing : ℕ → List Access → Task
+costing n xs = record { label = []; cost = n; accesses = xs }
+
 -- a task of no cost
 abbrev pub costless : List Access → Task
-costless xs = record { label = []; cost = 0; accesses = xs }
+costless xs = costing 0 xs
 
 abbrev pub reads : ℕ → Access
 reads address = record { writes = false; address = address }
@@ -235,3 +238,10 @@ pub by-whom : (map (played readTwice untilNotice .tasks .runner) (numbersFrom 0 
 unfolding upd lastBelow firstFrom accesses taskOf first reader sameAddress prev next passesRead passesWrite satisfied lowered after T.start
     linkMessage passed doneMessages duty creating step played numbersFrom
 by-whom = (refl, refl)
+
+-- two steps of work, then one that ends the task: how worker 0 stands with a task of cost 2 after its receipt, and after each of them
+pub works-off : map (λ n. played (costing 2 [] ∷ []) (replicate n 0) .stands 0) (numbersFrom 4 4)
+    ≡ working 0 2 ∷ working 0 1 ∷ working 0 0 ∷ free ∷ []
+unfolding upd lastBelow firstFrom accesses taskOf first reader sameAddress prev next passesRead passesWrite satisfied lowered after T.start
+    linkMessage passed doneMessages duty creating step played numbersFrom
+works-off = refl

@@ -1,6 +1,6 @@
 -- What all devices over the tasks share: a pick is an operation of the tasks or none, picks are taken until the tasks are finished,
 -- and every list of picks is a history of the tasks.
-use Prim.Native.Nat.{ℕ, zero, suc, _+_, _≤_, _<_}
+use Prim.Native.Nat.{ℕ, zero, suc, _+_, _*_, _≤_, _<_}
 use native.Mathlib.Omega.{arith}
 use mathlib.Core.Path.{_≡_, refl, sym, ap, subst, _∙_, fun-ext}
 use mathlib.Core.Logic.{⊎-elim, _≢_}
@@ -14,12 +14,14 @@ use borrow.Author.Tests.{eq-eqb}
 use Rattle.runs.specs.Below.{everyBelow, every-at, every-below, some-below}
 use Rattle.runs.specs.Members.{mem-left, mem-right, mem-either}
 use Rattle.runs.specs.Picks.{Picks, run}
+use Rattle.runs.specs.Sums.{sum}
 use Rattle.runs.specs.Traces as Traces
 use Rattle.runs.specs.Traces.{Happening}
 use Rattle.plan.specs.Plan.{Task}
 use Rattle.tasks.specs.Accesses.{Distinct, taskAt}
 use Rattle.tasks.specs.Flags.{Flags, each}
-use Rattle.tasks.specs.Tasks.{Created, Stand, free, telling, working, over, Tasks, isOver, isHeld, isReceived, isEnded, given}
+use Rattle.tasks.specs.Tasks.{Created, Stand, free, telling, working, over, Tasks, isOver, isHeld, isReceived, isEnded, leftInHand}
+use Rattle.tasks.specs.Tasks.{given}
 use Rattle.tasks.specs.History as H
 use Rattle.tasks.specs.Promise as Promise
 use Rattle.tasks.specs.Promise.{Kept, workLeft, toGive}
@@ -160,6 +162,10 @@ module _ {E : Type 0} (taskOp : E → Option H.Op) where
   abbrev pub isEnding : ℕ → E → ℕ
   isEnding i e = by (H.isEnding i) (taskOp e)
 
+  -- for a step of work on it
+  abbrev pub isWork : ℕ → E → ℕ
+  isWork i e = by (H.isWork i) (taskOp e)
+
   -- of a flag, what comes to access a
   abbrev pub brings : (Flags → ℕ) → ℕ → E → ℕ
   brings flag a e = by (H.brings flag a) (taskOp e)
@@ -230,6 +236,13 @@ module _ {E : Type 0} (taskOp : E → Option H.Op) where
 
     pub ended-once : Traces.tally (isEnding i) hs ≤ 1
     ended-once = omega (arith, tally-moves (H.isEnding i) 0 hs, Promise.ended-once d history i)
+
+    -- for each receipt it costs its steps of work: those done, and those left in the workers' hands
+    pub worked : Traces.tally (isWork i) hs + sum W (λ w. leftInHand i (st w)) ≡ Traces.tally (isReceipt i) hs * taskAt ts i .cost
+    worked = rw (tally-moves (H.isWork i) 0 hs, tally-moves (H.isReceipt i) 0 hs) (Promise.worked d history i)
+
+    pub works-exactly : t .status i ≡ over → Traces.tally (isWork i) hs ≡ taskAt ts i .cost
+    works-exactly o = tally-moves (H.isWork i) 0 hs ∙ Promise.works-exactly d history i o
 
     -- its receipt and its ending are by the worker that is noted, at the picks that are noted; picks are numbered from 1
     pub receipt-by : (k : ℕ) (h : Happening E) → getElem? hs k ≡ some h → 0 < isReceipt i (h .what)

@@ -1,7 +1,7 @@
 -- The tasks' promise: what a device may count on, whatever it is. A client cites these laws and can look behind none of them.
 use Prim.Native.Nat.{ℕ, suc, _+_, _*_, _-_, _≤_, _<_}
 use native.Mathlib.Omega.{arith}
-use mathlib.Core.Path.{_≡_, refl}
+use mathlib.Core.Path.{_≡_, refl, ap, _∙_}
 use mathlib.Core.Logic.{_⊎_, _≢_, _↔_}
 use mathlib.Core.Bool.{true}
 use mathlib.Core.List.{List, [], _∷_, _++_, List·Memᴰ}
@@ -17,9 +17,9 @@ use Rattle.tasks.specs.Accesses.{noAccess, taskOf, taskAt, accessAt, fir
 use Rattle.tasks.specs.Flags.{noFlag, Flags, each, sent, with, passesRead, passesWrite}
 use Rattle.tasks.specs.Tasks.{Message, Stand, free, telling, working, Status, new, waiting, ready, held, running, over, opening}
 use Rattle.tasks.specs.Tasks.{Tasks, start, withAdds, withCount, withStatus, stage, isOver, isReady, isHeld, isRunning, pastWaiting}
-use Rattle.tasks.specs.Tasks.{isReceived, isEnded, opened, linked, inHand, toAdd, given}
+use Rattle.tasks.specs.Tasks.{isReceived, isEnded, opened, linked, inHand, leftInHand, toAdd, given}
 use Rattle.tasks.specs.History.{Op, gives, Can, lowered, doneMessages, after, standAfter, gave, took, heldOut, fetched, isReceipt}
-use Rattle.tasks.specs.History.{isEnding, brings, isGive, quiet, Move, Run, tally, History}
+use Rattle.tasks.specs.History.{isEnding, isWork, brings, isGive, quiet, Move, Run, tally, History}
 use Rattle.tasks.specs.Inside.Statuses as statuses
 use Rattle.tasks.specs.Inside.Links as links
 use Rattle.tasks.specs.Inside.Rights as rights
@@ -35,6 +35,7 @@ use Rattle.tasks.specs.Inside.Stories as stories
 use Rattle.tasks.specs.Inside.Work as work
 use Rattle.tasks.specs.Inside.Histories as histories
 use Rattle.tasks.specs.Inside.Brought as came
+use Rattle.tasks.specs.Inside.Worked as labour
 -- the words of the laws
 pub use Rattle.tasks.specs.Accesses.{total, addr, totalCost, Distinct}
 pub use Rattle.tasks.specs.Flags.{Once, NoneTwice, RightsOnly}
@@ -345,6 +346,16 @@ module _ {W : ℕ} {ts : List Task} (d : Distinct ts) {ms : List Move} {t : Task
 
     pub ended-once : tally (isEnding i) ms ≤ 1
     ended-once = histories.ended-once (links.links ts d) i history
+
+    -- for each receipt as many steps of work as the task costs: those that were done, and those that are left in the workers' hands
+    pub worked : tally (isWork i) ms + sum W (λ w. leftInHand i (st w)) ≡ tally (isReceipt i) ms * taskAt ts i .cost
+    worked = labour.worked i history
+
+    -- so it was worked on for as many steps as it costs, once it is over
+    pub works-exactly : t .status i ≡ over → tally (isWork i) ms ≡ taskAt ts i .cost
+    works-exactly o =
+        let once : tally (isReceipt i) ms ≡ 1 = receipts ∙ ap isReceived o in
+        omega (arith, rw once at worked, labour.nothing-left W i st (in-hands always i ∙ ap isRunning o))
 
     -- its receipt, and its ending, are by the worker and at the time that are noted
     pub receipt-by : (m : Move) → List·Memᴰ m ms → 0 < isReceipt i (m .op) → (t .runner i ≡ m .by) × (t .receipt i ≡ m .at)

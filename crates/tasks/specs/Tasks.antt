@@ -1,6 +1,6 @@
 -- The tasks of a plan as they stand in a run: what is held by access, by task and by worker; statuses by their stage; how far creating is;
 -- and who has a task: in hand, to be added, or given to the device.
-use Prim.Native.Nat.{ℕ, suc, _+_, _-_, _≤_, _<_}
+use Prim.Native.Nat.{ℕ, suc, _+_, _*_, _-_, _≤_, _<_}
 use mathlib.Core.Path.{_≡_}
 use mathlib.Core.Bool.{Bool}
 use mathlib.Core.List.{List, []}
@@ -256,6 +256,12 @@ abbrev pub inHand : ℕ → Stand → ℕ
 inHand i free = 0
 inHand i (telling a f) = 0
 inHand i (working j n) = is j i
+
+-- the steps of work that are left of task i, in the hands of such a worker
+abbrev pub leftInHand : ℕ → Stand → ℕ
+leftInHand i free = 0
+leftInHand i (telling a f) = 0
+leftInHand i (working j n) = is j i * n
 
 -- how often task i is to be added, by one of W workers
 abbrev pub toAdd : ℕ → (ℕ → List ℕ) → ℕ → ℕ

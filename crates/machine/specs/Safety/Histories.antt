@@ -1,6 +1,6 @@
 -- Every list of picks is a history of the lock and a history of the tasks: the operations of its events, in their order. So the lock is
 -- changed by the lock's operations and by nothing else, and likewise tasks and flags.
-use Prim.Native.Nat.{ℕ, suc, _≤_, _<_}
+use Prim.Native.Nat.{ℕ, suc, _+_, _*_, _≤_, _<_}
 use mathlib.Core.Path.{_≡_, refl}
 use mathlib.Core.List.{List, [], _∷_, _++_, append-nil}
 use mathlib.Core.Option.{Option, none, some}
@@ -10,7 +10,8 @@ use Rattle.runs.specs.Traces as Traces
 use Rattle.lock.specs.Lock as L
 use Rattle.lock.specs.History as LH
 use Rattle.lock.specs.Promise as Lock
-use Rattle.tasks.specs.Tasks.{isReceived, isEnded}
+use Rattle.tasks.specs.Accesses.{taskAt}
+use Rattle.tasks.specs.Tasks.{over, isReceived, isEnded}
 use Rattle.tasks.specs.History as TH
 use Rattle.tasks.specs.Playing as P
 use Rattle.machine.specs.State.{Setup, Place, State, start, picked}
@@ -19,6 +20,7 @@ use Rattle.machine.specs.Step.{lockOp, taskOp, lockAfter, step, finished
 use Rattle.machine.specs.View.{does-step}
 use Rattle.machine.specs.Trace as Trace
 use Rattle.machine.specs.Trace.{Happening, trace}
+use Rattle.machine.specs.Whereabouts.{leftInHands}
 use Rattle.machine.specs.Safety.Locked.{lockStands, LockMove, aside, operates, lock-move, standsAfter, moved-stands}
 use Rattle.machine.specs.Safety.Invariant.{Playable, Inv, may-do, inv-start, inv-step, inv-picked}
 use Rattle.machine.specs.Safety.Traces.{step-picks}
@@ -91,6 +93,14 @@ module _ (c : Setup) (playable : Playable c) where
 
       pub endings : Trace.tally (Trace.isEnding i) (trace c (start c) ws) ≡ isEnded ((after c ws) .tasks .status i)
       endings = P.endings taskOp (playable .distinct) (trace c (start c) ws) task-history i
+
+      pub worked : Trace.tally (Trace.isWork i) (trace c (start c) ws) + leftInHands c (after c ws) i
+          ≡ Trace.tally (Trace.isReceipt i) (trace c (start c) ws) * taskAt (c .tasks) i .cost
+      worked = P.worked taskOp (playable .distinct) (trace c (start c) ws) task-history i
+
+      pub works-exactly : (after c ws) .tasks .status i ≡ over
+          → Trace.tally (Trace.isWork i) (trace c (start c) ws) ≡ taskAt (c .tasks) i .cost
+      works-exactly = P.works-exactly taskOp (playable .distinct) (trace c (start c) ws) task-history i
 
       pub receipt-by : (k : ℕ) (h : Happening) → getElem? (trace c (start c) ws) k ≡ some h → 0 < Trace.isReceipt i (h .what)
           → ((after c ws) .tasks .runner i ≡ h .by) × ((after c ws) .tasks .receipt i ≡ suc k)

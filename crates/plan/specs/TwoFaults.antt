@@ -1,0 +1,48 @@
+-- Texts with two faults, read: which one decides. The first faulty line does, and in it the refusals come in the order 1, 3, 2, 4, 5.
+use Prim.Native.Nat.{ℕ}
+use Prim.Native.String.{String}
+use mathlib.Core.Path.{_≡_, refl}
+use mathlib.Core.List.{List, [], _∷_}
+use Rattle.refusals.specs.declared.Refusal.{Refusal}
+use Rattle.refusals.specs.declared.Refusal.the-variants.{Malformed, OutOfRange, Misplaced, TooMany, AddressTwice}
+use Rattle.runs.specs.Every.{every}
+use Rattle.text.specs.Text.{bytes, allOf, split, valueAfter, numberOf}
+use Rattle.plan.specs.Line.{repeats, accessOf, lineBy, lineOfFields}
+use Rattle.plan.specs.Reading.{refused, firstRefusal, readLines, reading}
+
+pub record Faulty : Type 0 where
+  pub text : String
+  pub refusal : Refusal
+  pub line : ℕ
+
+abbrev faulty : String → Refusal → ℕ → Faulty
+faulty text refusal line = record { text = text; refusal = refusal; line = line }
+
+abbrev pub AllRefused : List Faulty → Type 0
+AllRefused [] = Unit {0}
+AllRefused (f ∷ fs) = (reading (bytes (f .text)) ≡ refused (f .refusal) (f .line)) × AllRefused fs
+
+abbrev pub twoFaults : List Faulty
+twoFaults =
+    -- 1 and not 3: two fields after an order line; no line feed and no W line
+    faulty "W\t1\nR\t1\nT\ta\n" Malformed 3
+    ∷ faulty "T\ta\t0" Malformed 1
+    -- 1 and not 2: no line feed
+    ∷ faulty "W\t33" Malformed 1
+    -- 3 and not 2: a T line after an order line, a second W line, an order line before the W line
+    ∷ faulty "W\t1\nR\t1\nT\ta\t1001\n" Misplaced 3
+    ∷ faulty "W\t1\nW\t33\n" Misplaced 2
+    ∷ faulty "R\t0\n" Misplaced 1
+    -- 2 and not 4, and not 5
+    ∷ faulty "W\t1\nT\ta\t0\tr1\tr2\tr3\tr4\tr65536\n" OutOfRange 2
+    ∷ faulty "W\t1\nT\ta\t0\tr65536\tr65536\n" OutOfRange 2
+    -- 4 and not 5
+    ∷ faulty "W\t1\nT\ta\t0\tr1\tr2\tr3\tr4\tr1\n" TooMany 2
+    -- 5 in a line before one that is malformed
+    ∷ faulty "W\t1\nT\ta\t0\tr5\tr5\nT\n" AddressTwice 2
+    ∷ []
+
+-- by computation
+pub two-faults : AllRefused twoFaults
+unfolding bytes every allOf split valueAfter numberOf accessOf lineBy lineOfFields repeats firstRefusal readLines reading
+two-faults = (refl, (refl, (refl, (refl, (refl, (refl, (refl, (refl, (refl, (refl, tt))))))))))
