@@ -6,7 +6,6 @@ use mathlib.Core.List.{List, _∷_}
 use Rattle.runs.specs.Update.{upd, upd-same, upd-other}
 use Rattle.tasks.specs.Tasks.{held}
 use Rattle.tasks.specs.History.{Can, can-give, can-hold, gives, holds, after}
-use Rattle.memory.specs.Layout as layout
 use Rattle.memory.specs.Shares.{Stored}
 use Rattle.memory.specs.Rows.{heldRows}
 use Rattle.memory.specs.Memory.{TaskMemory, memory, Able, HeldAfter, unfinished}

@@ -11,7 +11,6 @@ use borrow.Author.Tests.{le-ltb, le-leb, lt-leb, leb-true, leb-false, ltb-true, 
 use Rattle.refusals.specs.declared.Refusal.the-variants.{OutOfRange, Misplaced, TooMany, AddressTwice}
 use Rattle.runs.specs.Every.{every, every-append}
 use Rattle.runs.specs.Tests.{ways, both-left, both-right}
-use Rattle.runs.specs.Update.{clash}
 use Rattle.text.specs.Fields.{clipped}
 use Rattle.plan.specs.Plan.{Access, Plan}
 use Rattle.plan.specs.Line.{ask, access, repeats, atStart, hasOrders, taskLine}

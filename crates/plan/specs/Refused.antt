@@ -18,7 +18,7 @@ use Rattle.plan.specs.Plan.{Access, Plan, emptyPlan}
 use Rattle.plan.specs.Line.{'P', 'R', 'S', 'T', 'W', Ask, Line, atStart, isLabel, accessOf}
 use Rattle.plan.specs.Line.{workersLine, taskLine, picksLine, roundsLine, seededLine}
 use Rattle.plan.specs.Line.{oneNumber, withBoth, twoNumbers, withCost, labelAndCost, lineBy, lineOfFields, lineOf}
-use Rattle.plan.specs.Reading.{Reading, accepted, refused, firstRefusal, readLine, readEnd, readLines, isTooLong, reading}
+use Rattle.plan.specs.Reading.{Reading, accepted, refused, firstRefusal, readLine, readLines, isTooLong, reading}
 
 -- ---- what is asked of a line refuses by 1 to 5
 

@@ -7,13 +7,12 @@ use mathlib.Core.Option.{Option, none, some}
 use native.Mathlib.Omega.{arith}
 use native.Mathlib.Numerals.{add-one}
 use lib.ListN.{length, drop, length-append, length-drop, drop-of-length-le}
-use lib.Dec.{eqb}
 use borrow.Author.Tests.{lt-ltb, le-ltb, eq-eqb, ne-eqb}
 use Rattle.refusals.specs.declared.Refusal.{Refusal}
 use Rattle.refusals.specs.declared.Refusal.the-variants.{Malformed, Misplaced, TextTooLong}
 use Rattle.runs.specs.Update.{clash}
 use Rattle.runs.specs.Stores.{drop-from}
-use Rattle.text.specs.Text.{lineFeed, onFirst, split, allOf, numberOf}
+use Rattle.text.specs.Text.{lineFeed, split, allOf, numberOf}
 use Rattle.text.specs.Fields.{Cut, endless, cut, fieldOf, answer, First, unended, first, firstLine, Fields, clipped}
 use Rattle.text.specs.FieldLaws.{some-part, field-length, fields-more, line-parts, line-unended}
 use Rattle.plan.specs.declared.field.Access.the-variants as accesses

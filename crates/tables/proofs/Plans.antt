@@ -7,7 +7,7 @@ use native.Mathlib.Omega.{arith}
 use lib.ListN.{length, getD, take, length-append, List·getD-append}
 use lib.Seq.{getD-append-add}
 use lib.Dec.{eqb}
-use Rattle.plan.specs.Plan.{Access, Task, Plan}
+use Rattle.plan.specs.Plan.{Task, Plan}
 use Rattle.plan.specs.Reading.{reading, accepted}
 use Rattle.plan.specs.Accepted.{WellFormed, accepted-well-formed}
 use Rattle.tasks.specs.Accesses.{noTask, noAccess, accesses, taskAt, accessAt, first, reader}

@@ -11,7 +11,7 @@ use Rattle.tasks.specs.History as H
 use Rattle.tasks.specs.Playing as P
 use Rattle.tasks.specs.Promise as Promise
 use Rattle.machine.specs.State.{Setup, State, start}
-use Rattle.machine.specs.Event.{Event, minds, event}
+use Rattle.machine.specs.Event.{minds, event}
 use Rattle.machine.specs.Step.{taskOp, after}
 use Rattle.machine.specs.Trace.{trace, tally, brings}
 use Rattle.machine.specs.View.{Does, does-mind, does}

@@ -7,7 +7,7 @@ use mathlib.Core.List.{List, [], _∷_, _++_}
 use native.Mathlib.Omega.{arith}
 use lib.ListN.{length}
 use Rattle.runs.specs.Update.{same, order, upd, upd-same, upd-other, upd-all}
-use Rattle.runs.specs.Sums.{sum, sum-same, sum-ones, sum-at, le-sum}
+use Rattle.runs.specs.Sums.{sum-same, sum-ones, sum-at, le-sum}
 use Rattle.plan.specs.Plan.{Task}
 use Rattle.tasks.specs.Accesses.{taskOf, taskAt, first, reader, next, total}
 use Rattle.tasks.specs.Flags.{Flags, noFlag, sent, with, satisfied}

@@ -30,13 +30,15 @@ mul-t10 : tie.Need-mul-t10
 mul-t10 c =
     let start = c .before .before .before in
     let fault = c .before .before .first-fault in
-    omega (arith, start .pre (no-fault (start .args .misplaced) (start .args .out) (fault .result) (fault .ensures) (c .enum-told2 .given .1)))
+    let in-range = no-fault (start .args .misplaced) (start .args .out) (fault .result) (fault .ensures) (c .enum-told2 .given .1) in
+    omega (arith, start .pre in-range)
 
 add-t11 : tie.Need-add-t11
 add-t11 c =
     let start = c .before .before .before in
     let fault = c .before .before .first-fault in
-    omega (arith, start .pre (no-fault (start .args .misplaced) (start .args .out) (fault .result) (fault .ensures) (c .enum-told2 .given .1)))
+    let in-range = no-fault (start .args .misplaced) (start .args .out) (fault .result) (fault .ensures) (c .enum-told2 .given .1) in
+    omega (arith, start .pre in-range)
 
 returns-2 : tie.Need-returns-2
 returns-2 c = search needs
