@@ -1,6 +1,6 @@
 -- The code's view of one line: what is answered for its fields.
 use Prim.Native.Nat.{ℕ, _+_, _*_, _≤_}
-use mathlib.Core.Path.{_≡_}
+use mathlib.Core.Path.{_≡_, refl}
 use mathlib.Core.Bool.{Bool, true, false, not, _&&_, _||_}
 use mathlib.Core.List.{List, [], _∷_}
 use mathlib.Core.Option.{Option, none, some}
@@ -43,6 +43,11 @@ faultIn l = faultOf (firstRefusal (l .asks))
 -- the fault where the place of a line is judged before its numbers
 abbrev pub firstFault : Bool → Bool → Fault
 firstFault misplaced out = faultOf (firstRefusal (ask (not misplaced) Misplaced ∷ ask (not out) OutOfRange ∷ []))
+
+-- computed: where both are wrong
+pub both-wrong : firstFault true true ≡ Is Misplaced
+unfolding firstRefusal
+both-wrong = refl
 
 -- a line that is not of its form
 abbrev pub wrongLine : Line

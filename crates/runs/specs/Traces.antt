@@ -8,6 +8,7 @@ use mathlib.Core.List.{List, [], _∷_}
 use mathlib.Core.Logic.{_⊎_, inl, inr, ⊎-elim}
 use mathlib.Core.Option.{some}
 use lib.ListN.{length, getElem?}
+use lib.Dec.{eqb}
 use Rattle.runs.specs.Update.{order}
 use Rattle.runs.specs.Picks.{Picks, picks-drop, run}
 
@@ -118,3 +119,8 @@ module _ {S : Type 0} (finished : S → Bool) (step : S → ℕ → S) where
             ⊎ (finished (run pick (pick s w) ws) ≡ true)
         go true e r = inr (rw (pick-finished s w e, run-finished s e ws) e)
         go false e r = rw (pick-open s w e) (⊎-elim (λ l. inl (omega arith)) inr r)
+
+-- computed: where each pick adds 1 and 2 is finished, the third pick is not taken
+pub third-untaken : run (pick (eqb 2) (λ s w. suc s)) 0 (0 ∷ 0 ∷ 0 ∷ []) ≡ 2
+unfolding pick
+third-untaken = refl

@@ -4,9 +4,9 @@
 //! in it are measured, if one is given.
 //!
 //! The same machine code takes up to twice as long where stack and store happen to
-//! lie badly to each other, so each repetition has them elsewhere; and 15 % more or
-//! less by where the linker puts it, so `tests/compare_speed` measures two builds in
-//! four links each: PAD bytes, given when it is built, stand before all code.
+//! lie badly to each other, so each repetition has them elsewhere; and up to a fifth
+//! longer by where the linker puts it, so `tests/compare_speed` measures two builds
+//! in four links each: PAD bytes, given when it is built, stand before all code.
 
 use second::plan::Refusal;
 use second::run::{Reported, STORE_SIZE};
