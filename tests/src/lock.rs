@@ -10,6 +10,15 @@ pub enum Look {
     Owns,
 }
 
+/// What a hand-over tells.
+#[derive(Clone, Copy, Debug, PartialEq, Eq)]
+pub struct Handed {
+    /// The worker registered with the ticket that was let in, if there is one.
+    pub let_in: Option<usize>,
+    /// Whose session it was.
+    pub by: usize,
+}
+
 #[derive(Clone, Debug)]
 pub struct Lock {
     pub n: u64,
@@ -66,10 +75,13 @@ impl Lock {
         }
     }
 
-    pub fn hand_over(&mut self) {
+    /// Lets the ticket at the tail in, in the session of `owner`.
+    pub fn hand_over(&mut self, owner: usize) -> Handed {
+        let let_in = self.front();
         let slot = self.slot(self.tail);
         self.wait[slot] = self.tail;
         self.tail += 1;
+        Handed { let_in, by: owner }
     }
 
     /// The worker that registered the ticket at the tail. A registration of an

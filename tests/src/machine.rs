@@ -38,6 +38,8 @@ pub struct TaskRecord {
     pub worker: Option<usize>,
     pub receipt: Option<u64>,
     pub ending: Option<u64>,
+    /// Whose hand-over let its taker in, or who took it itself.
+    pub giver: Option<usize>,
     /// Its accesses are `first..first + accesses` of the machine's.
     pub first: usize,
     pub accesses: usize,
@@ -191,6 +193,7 @@ impl Machine {
                 worker: None,
                 receipt: None,
                 ending: None,
+                giver: None,
                 first: self.accesses.len(),
                 accesses: task.accesses.len(),
                 cost: task.cost,
@@ -224,12 +227,12 @@ impl Machine {
             Place::Drain(queue) => self.drain(queue).map_or(Place::Serve, Place::Drain),
             Place::Serve => self.serve_or_take(worker),
             Place::HandOver => {
-                self.lock.hand_over();
+                self.hand_over(worker);
                 self.workers[worker].served += 1;
                 Place::Serve
             }
             Place::Leave => {
-                self.leave();
+                self.leave(worker);
                 self.workers[worker]
                     .task
                     .map_or(Place::Free, |task| self.start(task))
@@ -239,7 +242,7 @@ impl Machine {
             Place::TryLock => self.try_lock(worker),
             Place::AddDrain(queue) => self.drain(queue).map_or(Place::AddLeave, Place::AddDrain),
             Place::AddLeave => {
-                self.leave();
+                self.leave(worker);
                 Place::Free
             }
         };
@@ -304,6 +307,7 @@ impl Machine {
             }
             (Some(task), None) => {
                 self.counters.own_receipts += 1;
+                self.tasks[task].giver = Some(worker);
                 self.receive(worker, task);
                 Place::Leave
             }
@@ -311,8 +315,19 @@ impl Machine {
         }
     }
 
-    fn leave(&mut self) {
-        self.lock.hand_over();
+    /// Who is let in has its task given from here on, whenever it looks.
+    fn hand_over(&mut self, owner: usize) {
+        let ticket = self.lock.tail;
+        let handed = self.lock.hand_over(owner);
+        if let Some(taker) = handed.let_in {
+            if let Look::Receives(task) = self.lock.look(ticket, taker) {
+                self.tasks[task as usize].giver = Some(handed.by);
+            }
+        }
+    }
+
+    fn leave(&mut self, owner: usize) {
+        self.hand_over(owner);
         self.owner = None;
     }
 

@@ -26,6 +26,7 @@ pub fn report(text: &[u8], plan: &Plan, machine: &Machine) -> Vec<u8> {
                 &or_dash(record.worker),
                 &or_dash(record.receipt),
                 &or_dash(record.ending),
+                &or_dash(record.giver),
             ],
         );
     }

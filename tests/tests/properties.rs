@@ -1,7 +1,7 @@
 //! What the paper promises of whole runs, over random plans and random lists of
 //! picks, with rings from the number of workers up and queues from 1.
 
-use second::lock::{Lock, Look};
+use second::lock::{Handed, Lock, Look};
 use second::machine::{Machine, Place, State};
 use second::plan::{check, Plan};
 use second::random::{plan, Rng, Shape};
@@ -15,6 +15,14 @@ struct Wait {
     picks: u64,
 }
 
+/// A hand-over that let a worker in with a task in its cell.
+#[derive(Clone, Copy)]
+struct Giving {
+    by: usize,
+    let_in: usize,
+    pick: u64,
+}
+
 /// A machine and what was seen of it from outside.
 struct Watch<'p> {
     plan: &'p Plan,
@@ -22,6 +30,10 @@ struct Watch<'p> {
     waits: Vec<Option<Wait>>,
     receipts: Vec<Vec<usize>>,
     endings: Vec<Vec<usize>>,
+    /// By task, as receipts and endings are.
+    givings: Vec<Vec<Giving>>,
+    /// By task, whether its receipt took it from the ready list.
+    taken: Vec<bool>,
     /// Every so many picks in a row include each worker, where that is known.
     regular: Option<u64>,
     hand_overs: u64,
@@ -35,6 +47,8 @@ impl<'p> Watch<'p> {
             waits: vec![None; plan.workers as usize],
             receipts: vec![Vec::new(); plan.tasks.len()],
             endings: vec![Vec::new(); plan.tasks.len()],
+            givings: vec![Vec::new(); plan.tasks.len()],
+            taken: vec![false; plan.tasks.len()],
             regular,
             hand_overs: 0,
         }
@@ -50,11 +64,17 @@ impl<'p> Watch<'p> {
         let tail = self.machine.lock.tail;
         let states = self.states();
         self.no_flag_repeats(worker);
+        let owner = self.machine.owner;
         self.machine.step(worker);
+        if self.machine.lock.tail > tail {
+            assert_eq!(owner, Some(worker), "only an owner hands over");
+            self.follow_hand_over(worker, tail);
+        }
         self.follow_waits(worker, place, self.machine.lock.tail - tail);
-        self.follow_tasks(worker, &states);
+        self.follow_tasks(worker, place, &states);
         self.turns();
         self.places();
+        self.givers();
         self.owner_and_limits();
         self.end_is_counted_right();
     }
@@ -67,6 +87,18 @@ impl<'p> Watch<'p> {
                 self.machine.accesses[message.access].flags & message.flags,
                 0
             );
+        }
+    }
+
+    /// The hand-over of `ticket`: who waits with it is let in, nobody where it isn't registered.
+    fn follow_hand_over(&mut self, by: usize, ticket: u64) {
+        let waits_with = |wait: &Option<Wait>| wait.is_some_and(|wait| wait.ticket == ticket);
+        if let Some(let_in) = self.waits.iter().position(waits_with) {
+            let (filled_for, task) = self.machine.lock.cells[let_in];
+            if filled_for == ticket {
+                let pick = self.machine.picks;
+                self.givings[task as usize].push(Giving { by, let_in, pick });
+            }
         }
     }
 
@@ -117,7 +149,7 @@ impl<'p> Watch<'p> {
         }
     }
 
-    fn follow_tasks(&mut self, worker: usize, before: &[State]) {
+    fn follow_tasks(&mut self, worker: usize, place: Place, before: &[State]) {
         for (task, &old) in before.iter().enumerate() {
             let new = self.machine.tasks[task].state;
             if old == new {
@@ -135,6 +167,7 @@ impl<'p> Watch<'p> {
             match new {
                 State::Run => {
                     self.receipts[task].push(worker);
+                    self.taken[task] = place == Place::Serve;
                     self.earlier_conflicts_over(task);
                 }
                 State::Over => self.endings[task].push(worker),
@@ -190,6 +223,47 @@ impl<'p> Watch<'p> {
             let placed = matches!(record.state, State::Ready | State::Held | State::Run);
             assert_eq!(places[task], usize::from(placed), "task {task}");
         }
+    }
+
+    /// The giver of each task is what receipts and hand-overs make it.
+    fn givers(&self) {
+        for (task, record) in self.machine.tasks.iter().enumerate() {
+            let givings = &self.givings[task];
+            match record.state {
+                State::New | State::Waiting | State::Ready => {
+                    assert!(record.giver.is_none() && givings.is_empty(), "task {task}");
+                }
+                State::Held => {
+                    let handed_over = self.held_ticket(task) < self.machine.lock.tail;
+                    assert_eq!(record.giver.is_some(), handed_over, "task {task}");
+                    assert_eq!(record.giver, givings.first().map(|giving| giving.by));
+                    assert_eq!(givings.len(), usize::from(handed_over));
+                }
+                State::Run | State::Over => {
+                    let giver = record.giver.expect("a giver");
+                    let itself = record.worker == Some(giver);
+                    assert_eq!(itself, self.taken[task], "task {task}");
+                    match givings[..] {
+                        [] => assert!(itself, "no hand-over gave task {task}"),
+                        [giving] => {
+                            assert_eq!((giver, record.worker), (giving.by, Some(giving.let_in)));
+                            assert!(!itself && Some(giving.pick) < record.receipt);
+                        }
+                        _ => panic!("task {task} was given twice"),
+                    }
+                }
+            }
+        }
+    }
+
+    /// The ticket of the waiting worker whose cell has a task that is held.
+    fn held_ticket(&self, task: usize) -> u64 {
+        let waits = self.waits.iter().zip(&self.machine.lock.cells);
+        let mut tickets = waits.filter_map(|(wait, &cell)| {
+            let ticket = (*wait)?.ticket;
+            (cell == (ticket, task as u64)).then_some(ticket)
+        });
+        tickets.next().expect("a waiting worker has it in its cell")
     }
 
     fn owner_and_limits(&self) {
@@ -470,18 +544,21 @@ fn hostile_lists_keep_their_bound() {
     }
 }
 
-/// The lock alone, for every ring size and as many workers as slots: turns,
-/// front waiter and freedom are those of the tickets that are out.
+/// The lock alone, for every ring size and as many workers as slots, over some
+/// laps: turns, front waiter, freedom and whom a hand-over lets in are those of
+/// the tickets that are out.
 #[test]
 fn lock_alone() {
     let rng = &mut Rng::new(15);
+    // By what is known of the ticket let in: not taken, not registered, registered.
+    let mut told = [0; 3];
     for slots in 1..=64 {
         let mut lock = Lock::new(slots, slots);
         let start = slots as u64;
         assert_eq!((lock.head, lock.tail), (start, start + 1));
         let mut tickets: Vec<Option<(u64, bool)>> = vec![None; slots];
-        for _ in 0..2_000 {
-            let worker = rng.index(slots);
+        while lock.tail < 8 * start {
+            let worker = due_or_any(rng, &lock, &tickets);
             tickets[worker] = match tickets[worker] {
                 None => Some((lock.take(), false)),
                 Some((ticket, false)) => {
@@ -489,24 +566,39 @@ fn lock_alone() {
                     Some((ticket, true))
                 }
                 Some((ticket, true)) if lock.look(ticket, worker) == Look::Owns => {
-                    lock.hand_over();
+                    let let_in = registered(&tickets, lock.tail);
+                    told[usize::from(lock.tail < lock.head) + usize::from(let_in.is_some())] += 1;
+                    assert_eq!(lock.hand_over(worker), Handed { let_in, by: worker });
                     None
                 }
                 waiting => waiting,
             };
             compare_lock(&lock, &tickets);
         }
-        assert!(lock.tail > start + 4);
     }
+    assert!(told.iter().all(|&count| count > 100), "{told:?}");
+}
+
+/// Half of the time the worker whose turn has come, else any.
+fn due_or_any(rng: &mut Rng, lock: &Lock, tickets: &[Option<(u64, bool)>]) -> usize {
+    let due = |held: &Option<(u64, bool)>| held.is_some_and(|(ticket, _)| ticket < lock.tail);
+    match tickets.iter().position(due) {
+        Some(worker) if rng.one_in(2) => worker,
+        _ => rng.index(tickets.len()),
+    }
+}
+
+/// Who has registered this ticket and has it still.
+fn registered(tickets: &[Option<(u64, bool)>], ticket: u64) -> Option<usize> {
+    tickets
+        .iter()
+        .position(|held| *held == Some((ticket, true)))
 }
 
 fn compare_lock(lock: &Lock, tickets: &[Option<(u64, bool)>]) {
     for &(ticket, _) in tickets.iter().flatten() {
         assert_eq!(lock.turn(ticket), ticket < lock.tail);
     }
-    let at_tail = tickets
-        .iter()
-        .position(|held| *held == Some((lock.tail, true)));
-    assert_eq!(lock.front(), at_tail);
+    assert_eq!(lock.front(), registered(tickets, lock.tail));
     assert_eq!(lock.free(), tickets.iter().all(|held| held.is_none()));
 }

@@ -42,7 +42,7 @@ fn checked(
 fn a_run() {
     let expected = Ok(Reported {
         picks: 14,
-        length: 43,
+        length: 45,
     });
     assert_eq!(checked(&listing(), u64::MAX, STORE, 100), expected);
     assert_eq!(checked(&listing(), u64::MAX, STORE + 3, 1_000), expected);
@@ -51,10 +51,10 @@ fn a_run() {
 #[test]
 fn output_of_the_exact_length() {
     assert_eq!(
-        checked(&listing(), u64::MAX, STORE, 43).map(|r| r.length),
-        Ok(43)
+        checked(&listing(), u64::MAX, STORE, 45).map(|r| r.length),
+        Ok(45)
     );
-    assert_eq!(checked(&listing(), u64::MAX, STORE, 42), refusal(8, 0));
+    assert_eq!(checked(&listing(), u64::MAX, STORE, 44), refusal(8, 0));
     assert_eq!(checked(&listing(), u64::MAX, STORE, 0), refusal(8, 0));
 }
 
@@ -85,11 +85,11 @@ fn limits() {
     let report = |limit: u64| String::from_utf8(answer_bytes(&listing(), limit)).unwrap();
     assert_eq!(
         report(0),
-        "E\topen\t0\nT\t0\ta\tnew\t-\t-\t-\nL\t64\t65\t-\n"
+        "E\topen\t0\nT\t0\ta\tnew\t-\t-\t-\t-\nL\t64\t65\t-\n"
     );
     assert_eq!(
         report(13),
-        "E\topen\t13\nT\t0\ta\trun\t0\t13\t-\nL\t66\t66\t1\n"
+        "E\topen\t13\nT\t0\ta\trun\t0\t13\t-\t1\nL\t66\t66\t1\n"
     );
     assert_eq!(report(14), report(u64::MAX));
     assert_eq!(report(15), report(u64::MAX));
