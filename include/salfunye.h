@@ -29,7 +29,7 @@ extern "C" {
 #define SALFUNYE_STORE_SIZE 8192
 
 /* No report is longer, in bytes. */
-#define SALFUNYE_REPORT_SIZE 11745
+#define SALFUNYE_REPORT_SIZE 14433
 
 /* Refusals. The first five are the plan's, with its line from 1; of two faulty
  * lines the first decides, and within a line the order is 1, 3, 2, 4, 5. The
@@ -88,7 +88,8 @@ struct salfunye_ran salfunye_run(const uint8_t *text, size_t text_length, uint64
  * A function refuses what it has no room for or what would pass 2^64 - 1, and
  * changes nothing then: `ok` is 0, `kind` is 0, or the answer is false. With it
  * `head` and `tail` are as they were given, but 0 from salfunye_lock_start, and
- * `ticket` and `value` are 0. salfunye_lock_is_free refuses nothing.
+ * `ticket`, `value`, `let_in` and `by` are 0. salfunye_lock_is_free refuses
+ * nothing.
  */
 
 struct salfunye_lock_ends {
@@ -107,6 +108,15 @@ struct salfunye_lock_taken {
 struct salfunye_lock_answer {
     uint64_t kind;
     uint64_t value;
+};
+
+struct salfunye_lock_handed {
+    uint64_t ok;
+    uint64_t head;
+    uint64_t tail;
+    uint64_t kind;   /* 1: nobody is registered with the ticket that is let in. 2: the worker `let_in` */
+    uint64_t let_in; /* 0 where it is nobody */
+    uint64_t by;     /* whose session it was: the owner that was named */
 };
 
 /* Starts a lock: head `slots`, tail one more, wait slots `slots`, all else 0, in arrays of any length: the other functions
@@ -131,9 +141,23 @@ struct salfunye_lock_answer salfunye_lock_look(uint64_t slots,
                                                const uint64_t *cell_tasks, size_t cell_tasks_length,
                                                uint64_t ticket, uint64_t worker);
 
-/* Lets the ticket `tail` in and raises the tail. */
-struct salfunye_lock_ends salfunye_lock_hand_over(uint64_t slots, uint64_t head, uint64_t tail,
-                                                  uint64_t *wait, size_t wait_length);
+/*
+ * Lets the ticket `tail` in, in the session of `owner`: writes the tail at wait
+ * slot tail mod slots, raises it, and tells whom that lets in and whose session
+ * it was. The worker is told from slot tail mod slots of the registrations,
+ * which are only read: a number of at least the tail is the tail + that worker,
+ * a lower one is nobody's. It refuses 0 slots, wait slots or registrations
+ * fewer than `slots`, and a tail of 2^64 - 1.
+ *
+ * In a ring of at least as many slots as workers, where workers take a ticket,
+ * register it and look, and owners alone fill and hand over, it lets in exactly
+ * the worker that waits with that ticket, and nobody exactly when none is
+ * registered with it. No registration of an earlier lap is told.
+ */
+struct salfunye_lock_handed salfunye_lock_hand_over(uint64_t slots, uint64_t head, uint64_t tail,
+                                                    uint64_t *wait, size_t wait_length,
+                                                    const uint64_t *registrations, size_t registrations_length,
+                                                    uint64_t owner);
 
 /* Kind 1: no registered front waiter. 2: the worker `value`. */
 struct salfunye_lock_answer salfunye_lock_front_waiter(uint64_t slots, uint64_t head, uint64_t tail,

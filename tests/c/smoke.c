@@ -21,7 +21,7 @@ static int failures = 0;
     } while (0)
 
 static const char listing[] = "W\t2\nT\ta\t0\nP\t1\t3\nP\t0\t5\nP\t1\t4\nP\t0\t2\n";
-static const char report[] = "E\tfinished\t14\nT\t0\ta\tover\t0\t13\t14\nL\t66\t66\t1\n";
+static const char report[] = "E\tfinished\t14\nT\t0\ta\tover\t0\t13\t14\t1\nL\t66\t66\t1\n";
 
 static void *taken(size_t size) {
     void *room = malloc(size > 0 ? size : 1);
@@ -70,7 +70,7 @@ static void bench(void) {
     EXPECT(ran.number == 0 && ran.line == 0 && ran.picks == 14);
     ran = run(listing, size, 14, SALFUNYE_STORE_SIZE + 9, SALFUNYE_REPORT_SIZE, report);
     EXPECT(ran.number == 0 && ran.picks == 14);
-    ran = run(listing, size, 3, SALFUNYE_STORE_SIZE, 100, "E\topen\t3\nT\t0\ta\tnew\t-\t-\t-\nL\t65\t65\t1\n");
+    ran = run(listing, size, 3, SALFUNYE_STORE_SIZE, 100, "E\topen\t3\nT\t0\ta\tnew\t-\t-\t-\t-\nL\t65\t65\t1\n");
     EXPECT(ran.number == 0 && ran.picks == 3);
     ran = run(listing, size, UINT64_MAX, SALFUNYE_STORE_SIZE, length - 1, NULL);
     EXPECT(ran.number == SALFUNYE_OUTPUT_TOO_SHORT && ran.line == 0 && ran.picks == 0);
@@ -124,11 +124,30 @@ static void lock(void) {
     struct salfunye_lock_answer front = salfunye_lock_front_waiter(SLOTS, two.head, two.tail, registrations, SLOTS);
     EXPECT(front.kind == 2 && front.value == 1);
     EXPECT(salfunye_lock_fill(two.head, two.tail, tickets, WORKERS, tasks, WORKERS, 1, 77));
-    ends = salfunye_lock_hand_over(SLOTS, two.head, two.tail, wait, SLOTS);
-    EXPECT(ends.ok == 1 && ends.tail == two.tail + 1);
+    struct salfunye_lock_handed handed = salfunye_lock_hand_over(SLOTS, two.head, two.tail, wait, SLOTS, registrations, SLOTS, 0);
+    EXPECT(handed.ok == 1 && handed.head == two.head && handed.tail == two.tail + 1);
+    EXPECT(handed.kind == 2 && handed.let_in == 1 && handed.by == 0);
     look = salfunye_lock_look(SLOTS, wait, SLOTS, tickets, WORKERS, tasks, WORKERS, two.ticket, 1);
     EXPECT(look.kind == 2 && look.value == 77);
+    handed = salfunye_lock_hand_over(SLOTS, handed.head, handed.tail, wait, SLOTS, registrations, SLOTS, 0);
+    EXPECT(handed.ok == 1 && handed.kind == 1 && handed.let_in == 0 && handed.by == 0);
+    EXPECT(salfunye_lock_is_free(handed.head, handed.tail));
+
+    /* worker 1 owns and leaves twice; at the last hand-over slot 0 still has worker 0's registration, a lap old */
+    for (int i = 0; i < 2; i++) {
+        one = salfunye_lock_take_ticket(handed.head, handed.tail);
+        EXPECT(salfunye_lock_register(SLOTS, registrations, SLOTS, one.ticket, 1));
+        look = salfunye_lock_look(SLOTS, wait, SLOTS, tickets, WORKERS, tasks, WORKERS, one.ticket, 1);
+        EXPECT(look.kind == 3);
+        handed = salfunye_lock_hand_over(SLOTS, one.head, one.tail, wait, SLOTS, registrations, SLOTS, 1);
+        EXPECT(handed.ok == 1 && handed.kind == 1 && handed.let_in == 0 && handed.by == 1);
+    }
+    EXPECT(handed.tail == 2 * SLOTS + 1 && registrations[0] == SLOTS);
+
     EXPECT(!salfunye_lock_register(SLOTS, registrations, SLOTS - 1, one.ticket, 0));
+    handed = salfunye_lock_hand_over(SLOTS, one.head, one.tail, wait, SLOTS, registrations, SLOTS - 1, 1);
+    EXPECT(handed.ok == 0 && handed.head == one.head && handed.tail == one.tail);
+    EXPECT(handed.kind == 0 && handed.let_in == 0 && handed.by == 0);
 }
 
 int main(void) {

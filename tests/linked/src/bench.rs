@@ -4,6 +4,9 @@ use crate::declared::bench_c::{salfunye_check, salfunye_run};
 use second::plan::Refusal;
 use second::run::Reported;
 
+/// No report is longer: `SALFUNYE_REPORT_SIZE` of the header.
+pub const REPORT_SIZE: usize = 14_433;
+
 fn refusal(number: u64, line: u64) -> Refusal {
     match u8::try_from(number) {
         Ok(number @ 1..=8) => Refusal { number, line },

@@ -24,6 +24,16 @@ pub mod lock_c {
         pub value: u64,
     }
 
+    #[repr(C)]
+    pub struct Handed {
+        pub ok: u64,
+        pub head: u64,
+        pub tail: u64,
+        pub kind: u64,
+        pub let_in: u64,
+        pub by: u64,
+    }
+
     extern "C" {
         pub fn salfunye_lock_start(
             slots: u64,
@@ -65,7 +75,10 @@ pub mod lock_c {
             tail: u64,
             wait: *mut u64,
             wait_length: usize,
-        ) -> Ends;
+            registrations: *const u64,
+            registrations_length: usize,
+            owner: u64,
+        ) -> Handed;
 
         pub fn salfunye_lock_front_waiter(
             slots: u64,

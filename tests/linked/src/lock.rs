@@ -31,6 +31,13 @@ pub enum Front {
     Waiter(u64),
 }
 
+/// Whom a hand-over let in, and whose session it was.
+#[derive(Clone, Copy, Debug, PartialEq, Eq)]
+pub struct Handed {
+    pub let_in: Front,
+    pub by: u64,
+}
+
 fn accepted(ok: u64) -> Option<()> {
     match ok {
         0 => None,
@@ -102,13 +109,31 @@ pub fn look(slots: u64, arrays: &Arrays, ticket: u64, worker: u64) -> Option<Loo
     }
 }
 
-pub fn hand_over(slots: u64, ends: &mut Ends, arrays: &mut Arrays) -> Option<()> {
+pub fn hand_over(slots: u64, ends: &mut Ends, arrays: &mut Arrays, owner: u64) -> Option<Handed> {
     let to = &mut arrays.wait;
-    let (head, tail) = (ends.head, ends.tail);
-    let answer = unsafe { salfunye_lock_hand_over(slots, head, tail, to.as_mut_ptr(), to.len()) };
+    let from = &arrays.registrations;
+    let answer = unsafe {
+        salfunye_lock_hand_over(
+            slots,
+            ends.head,
+            ends.tail,
+            to.as_mut_ptr(),
+            to.len(),
+            from.as_ptr(),
+            from.len(),
+            owner,
+        )
+    };
     ends.head = answer.head;
     ends.tail = answer.tail;
-    accepted(answer.ok)
+    let let_in = match (answer.ok, answer.kind, answer.let_in) {
+        (0, 0, 0) if answer.by == 0 => return None,
+        (1, 1, 0) => Front::Nobody,
+        (1, 2, worker) => Front::Waiter(worker),
+        other => panic!("{other:?} is no hand-over"),
+    };
+    let by = answer.by;
+    Some(Handed { let_in, by })
 }
 
 pub fn front_waiter(slots: u64, ends: Ends, arrays: &Arrays) -> Option<Front> {

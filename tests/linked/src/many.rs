@@ -1,7 +1,7 @@
 //! The proved run beside the second implementation's: the same answer, the same
 //! store and the same output, and nothing changed around them.
 
-use crate::bench::run;
+use crate::bench::{run, REPORT_SIZE};
 use crate::fence::Fenced;
 use second::plan::Refusal;
 use second::random::{damaged, plan, Rng, Shape};
@@ -9,8 +9,6 @@ use second::run::{run as second_run, Reported, STORE_SIZE};
 
 /// Where no limit is drawn a run still ends here at the latest.
 const LONG: u64 = 100_000;
-/// Longer than any report of a plan.
-const OUTPUT: usize = 16_384;
 
 /// The arguments of a run: store and output with their content.
 #[derive(Clone, Debug)]
@@ -79,7 +77,7 @@ fn random_text(rng: &mut Rng) -> Vec<u8> {
 
 /// What the second implementation reports with a limit and all the room it needs.
 fn tried(text: &[u8], limit: u64) -> Option<Reported> {
-    let (mut store, mut output) = ([0; STORE_SIZE], [0; OUTPUT]);
+    let (mut store, mut output) = ([0; STORE_SIZE], [0; REPORT_SIZE]);
     second_run(text, limit, &mut store, &mut output).ok()
 }
 
@@ -120,7 +118,7 @@ fn random_output_size(rng: &mut Rng, text: &[u8], limit: u64) -> usize {
         3 => exact(rng, 0, 0),
         4 => exact(rng, 2, 4),
         5 => exact(rng, 0, 300),
-        _ => 12_000 + rng.index(400),
+        _ => REPORT_SIZE + rng.index(400),
     }
 }
 

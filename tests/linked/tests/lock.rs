@@ -1,7 +1,7 @@
 //! The proved lock beside the second one: after every operation the same answer,
 //! the same ends and the same arrays, in full.
 
-use linked::lock::{self, Arrays, Ends, Front};
+use linked::lock::{self, Arrays, Ends, Front, Handed};
 use second::lock::{Lock, Look};
 use second::random::Rng;
 
@@ -17,10 +17,19 @@ fn as_second(look: lock::Look) -> Look {
     }
 }
 
-fn front_of(second: &Lock) -> Front {
-    match second.front() {
+fn as_front(worker: Option<usize>) -> Front {
+    match worker {
         Some(worker) => Front::Waiter(worker as u64),
         None => Front::Nobody,
+    }
+}
+
+/// The second lock's hand-over, and what it tells.
+fn second_hand_over(second: &mut Lock, owner: u64) -> Handed {
+    let handed = second.hand_over(owner as usize);
+    Handed {
+        let_in: as_front(handed.let_in),
+        by: handed.by as u64,
     }
 }
 
@@ -53,6 +62,37 @@ mod histories {
         arrays: Arrays,
         second: Lock,
         stands: Vec<Stand>,
+        told: Told,
+    }
+
+    /// How many hand-overs let in a waiter; nobody, as the ticket that was out was
+    /// not registered; nobody, as it was not taken; and how many of those for nobody
+    /// found a registration of an earlier lap in the slot.
+    #[derive(Clone, Copy, Debug, Default)]
+    struct Told {
+        waiter: u64,
+        unregistered: u64,
+        untaken: u64,
+        earlier_lap: u64,
+    }
+
+    impl Told {
+        fn add(&mut self, other: Told) {
+            self.waiter += other.waiter;
+            self.unregistered += other.unregistered;
+            self.untaken += other.untaken;
+            self.earlier_lap += other.earlier_lap;
+        }
+
+        fn each_at_least(&self, count: u64) {
+            let counts = [
+                self.waiter,
+                self.unregistered,
+                self.untaken,
+                self.earlier_lap,
+            ];
+            assert!(counts.iter().all(|&told| told >= count), "{self:?}");
+        }
     }
 
     impl History {
@@ -79,6 +119,7 @@ mod histories {
                 arrays,
                 second,
                 stands: vec![Stand::Out; workers],
+                told: Told::default(),
             };
             history.make_stale(rng);
             history
@@ -115,14 +156,29 @@ mod histories {
             as_second(look)
         }
 
-        fn hand_over(&mut self) {
-            lock::hand_over(self.slots, &mut self.ends, &mut self.arrays).expect("accepted");
-            self.second.hand_over();
+        /// The answer is the second lock's, and it is who waits with the ticket.
+        fn hand_over(&mut self, owner: usize) {
+            let Ends { head, tail } = self.ends;
+            let slot = self.arrays.registrations[(tail % self.slots) as usize];
+            let (slots, arrays) = (self.slots, &mut self.arrays);
+            let handed = lock::hand_over(slots, &mut self.ends, arrays, owner as u64);
+            let handed = handed.expect("accepted");
+            assert_eq!(handed, second_hand_over(&mut self.second, owner as u64));
+            let waits = Stand::Waiting(tail);
+            let waiter = self.stands.iter().position(|stand| *stand == waits);
+            assert_eq!(handed.let_in, as_front(waiter));
+            assert_eq!(handed.by, owner as u64);
+            match handed.let_in {
+                Front::Waiter(_) => self.told.waiter += 1,
+                Front::Nobody if tail < head => self.told.unregistered += 1,
+                Front::Nobody => self.told.untaken += 1,
+            }
+            self.told.earlier_lap += u64::from(waiter.is_none() && slot != 0);
         }
 
         fn front(&self) -> Front {
             let front = lock::front_waiter(self.slots, self.ends, &self.arrays).expect("an answer");
-            assert_eq!(front, front_of(&self.second));
+            assert_eq!(front, as_front(self.second.front()));
             front
         }
 
@@ -153,22 +209,22 @@ mod histories {
                     Look::Receives(_) => Stand::Out,
                     Look::Owns => Stand::Owning,
                 },
-                Stand::Owning => self.serve_or_leave(rng),
+                Stand::Owning => self.serve_or_leave(rng, worker),
                 Stand::Serving => {
-                    self.hand_over();
+                    self.hand_over(worker);
                     Stand::Owning
                 }
             }
         }
 
-        fn serve_or_leave(&mut self, rng: &mut Rng) -> Stand {
+        fn serve_or_leave(&mut self, rng: &mut Rng, worker: usize) -> Stand {
             match self.front() {
                 Front::Waiter(waiter) if !rng.one_in(4) => {
                     self.fill(waiter, rng.word());
                     Stand::Serving
                 }
                 _ => {
-                    self.hand_over();
+                    self.hand_over(worker);
                     Stand::Out
                 }
             }
@@ -220,23 +276,29 @@ mod histories {
     #[test]
     fn with_as_many_workers_as_slots() {
         let mut rng = Rng::new(2);
+        let mut told = Told::default();
         for slots in 1..=64 {
             let mut history = History::start(&mut rng, slots, slots);
             history.play(&mut rng, 2_000);
             assert!(history.laps() > 2, "{} laps", history.laps());
+            told.add(history.told);
         }
+        told.each_at_least(100);
     }
 
     #[test]
     fn over_many_laps() {
         let mut rng = Rng::new(3);
+        let mut told = Told::default();
         for slots in 1..=16_usize {
             for workers in [1, slots.div_ceil(2), slots] {
                 let mut history = History::start(&mut rng, slots, workers);
                 history.play(&mut rng, 20_000);
                 assert!(history.laps() > 200, "{} laps", history.laps());
+                told.add(history.told);
             }
         }
+        told.each_at_least(1_000);
     }
 }
 
@@ -262,6 +324,8 @@ mod any_calls {
         /// How often each of the seven operations that can be refused was
         /// accepted and was refused.
         counts: [[u64; 2]; 7],
+        /// How often a hand-over let in nobody and a waiter.
+        told: [u64; 2],
     }
 
     impl Calls {
@@ -283,6 +347,7 @@ mod any_calls {
                     cell_tasks: numbers(rng, slots + 2),
                 },
                 counts: [[0; 2]; 7],
+                told: [0; 2],
             }
         }
 
@@ -414,19 +479,25 @@ mod any_calls {
             self.is(expected);
         }
 
-        fn hand_over(&mut self, slots: u64) {
-            let ring = self.arrays.wait.len() as u64;
+        fn hand_over(&mut self, slots: u64, owner: u64) {
+            let arrays = &self.arrays;
+            let ring = arrays.wait.len().min(arrays.registrations.len()) as u64;
             let fits = (1..=ring).contains(&slots) && self.ends.tail != MOST;
-            let (answer, expected) = self.after(4, fits, slots, Lock::hand_over);
-            let handed = lock::hand_over(slots, &mut self.ends, &mut self.arrays);
+            let change = |second: &mut Lock| second_hand_over(second, owner);
+            let (answer, expected) = self.after(4, fits, slots, change);
+            let handed = lock::hand_over(slots, &mut self.ends, &mut self.arrays, owner);
             assert_eq!(handed, answer);
             self.is(expected);
+            if let Some(handed) = handed {
+                self.told[usize::from(handed.let_in != Front::Nobody)] += 1;
+            }
         }
 
         fn front_waiter(&mut self, slots: u64) {
             let ring = self.arrays.registrations.len() as u64;
             let fits = (1..=ring).contains(&slots);
-            let (answer, expected) = self.after(5, fits, slots, |second| front_of(second));
+            let change = |second: &mut Lock| as_front(second.front());
+            let (answer, expected) = self.after(5, fits, slots, change);
             assert_eq!(lock::front_waiter(slots, self.ends, &self.arrays), answer);
             self.is(expected);
         }
@@ -461,7 +532,7 @@ mod any_calls {
                 1..=3 => self.take_ticket(),
                 4..=7 => self.register(slots, ticket, worker),
                 8..=12 => self.look(slots, ticket, worker),
-                13..=15 => self.hand_over(slots),
+                13..=15 => self.hand_over(slots, worker),
                 16..=19 => self.front_waiter(slots),
                 20..=21 => self.fill(worker, rng.word()),
                 _ => self.is_free(),
@@ -472,7 +543,7 @@ mod any_calls {
     #[test]
     fn each_answer_is_the_second_ones_or_a_refusal() {
         let mut rng = Rng::new(4);
-        let mut counts = [[0; 2]; 7];
+        let (mut counts, mut told) = ([[0; 2]; 7], [0; 2]);
         for slots in 1..=64 {
             for _ in 0..24 {
                 let mut calls = Calls::new(&mut rng, slots);
@@ -483,6 +554,8 @@ mod any_calls {
                     sum[0] += count[0];
                     sum[1] += count[1];
                 }
+                told[0] += calls.told[0];
+                told[1] += calls.told[1];
             }
         }
         for (operation, [accepted, refused]) in counts.iter().enumerate() {
@@ -491,5 +564,32 @@ mod any_calls {
                 "operation {operation}: {accepted} {refused}"
             );
         }
+        assert!(told[0] > 100 && told[1] > 100, "hand-overs: {told:?}");
+    }
+
+    /// Each reason for which a hand-over is refused, alone. Refused, it changes nothing.
+    #[test]
+    fn refused_hand_overs() {
+        let handed = |slots: u64, wait: usize, registrations: usize, tail: u64| {
+            let mut arrays = Arrays {
+                wait: vec![4, 5, 6, 7][..wait].to_vec(),
+                registrations: vec![10, 5, 6, 8][..registrations].to_vec(),
+                cell_tickets: Vec::new(),
+                cell_tasks: Vec::new(),
+            };
+            let mut ends = Ends { head: 9, tail };
+            let before = (ends, arrays.clone());
+            let handed = lock::hand_over(slots, &mut ends, &mut arrays, 3);
+            assert_eq!(handed.is_none(), (ends, arrays) == before);
+            handed
+        };
+        let lets_in = |let_in| Some(Handed { let_in, by: 3 });
+        assert_eq!(handed(4, 4, 4, 8), lets_in(Front::Waiter(2)));
+        assert_eq!(handed(0, 4, 4, 8), None);
+        assert_eq!(handed(4, 3, 4, 8), None);
+        assert_eq!(handed(4, 4, 3, 8), None);
+        assert_eq!(handed(3, 3, 3, 8), lets_in(Front::Nobody));
+        assert_eq!(handed(4, 4, 4, MOST), None);
+        assert_eq!(handed(4, 4, 4, MOST - 1), lets_in(Front::Nobody));
     }
 }

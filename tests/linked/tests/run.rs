@@ -1,7 +1,7 @@
 //! The proved run: the paper's examples, and what it leaves in store and output,
 //! each held to the second implementation and to the paper's own words.
 
-use linked::bench::{check, run};
+use linked::bench::{check, run, REPORT_SIZE};
 use linked::many::{compare, compare_many, used_output, used_store, Call};
 use second::plan::Refusal;
 use second::run::{answer_bytes, Reported};
@@ -9,7 +9,7 @@ use second::text::lines;
 
 const STORE: usize = 8_192;
 const LISTING: [&str; 6] = ["W 2", "T a 0", "P 1 3", "P 0 5", "P 1 4", "P 0 2"];
-const LISTING_REPORT: &str = "E finished 14\nT 0 a over 0 13 14\nL 66 66 1\n";
+const LISTING_REPORT: &str = "E finished 14\nT 0 a over 0 13 14 1\nL 66 66 1\n";
 
 /// Calls with used buffers, compares all, and gives the answer.
 fn compared(
@@ -37,8 +37,8 @@ fn compared(
 fn shown(plan: &[&str]) -> String {
     let text = lines(plan);
     assert_eq!(check(&text), Ok(()));
-    compared(&text, u64::MAX, STORE, 12_000, 3).expect("a report");
-    let (mut store, mut output) = (used_store(STORE, 5), vec![b'#'; 12_000]);
+    compared(&text, u64::MAX, STORE, REPORT_SIZE, 3).expect("a report");
+    let (mut store, mut output) = (used_store(STORE, 5), vec![b'#'; REPORT_SIZE]);
     let reported = run(&text, u64::MAX, &mut store, &mut output).expect("a report");
     assert!(store.iter().all(|&number| number == 0));
     assert!(output[reported.length..].iter().all(|&byte| byte == b'#'));
@@ -47,7 +47,7 @@ fn shown(plan: &[&str]) -> String {
 }
 
 fn refused(text: &[u8]) -> (u8, u64) {
-    let answer = compared(text, u64::MAX, STORE, 12_000, 9).expect_err("a refusal");
+    let answer = compared(text, u64::MAX, STORE, REPORT_SIZE, 9).expect_err("a refusal");
     assert_eq!(check(text), Err(answer));
     (answer.number, answer.line)
 }
@@ -68,14 +68,14 @@ mod examples {
     fn reports() {
         assert_eq!(shown(&["W 32"]), "E finished 0\nL 64 65 -\n");
         assert_eq!(shown(&["W 1"]), "E finished 0\nL 64 65 -\n");
-        let new = "E open 0\nT 0 a new - - -\nL 64 65 -\n";
+        let new = "E open 0\nT 0 a new - - - -\nL 64 65 -\n";
         assert_eq!(shown(&["W 1", "T a 0"]), new);
-        let ten = "E finished 10\nT 0 a over 0 8 10\nL 65 66 -\n";
+        let ten = "E finished 10\nT 0 a over 0 8 10 0\nL 65 66 -\n";
         assert_eq!(shown(&["W 1", "T a 0", "R 20"]), ten);
         assert_eq!(shown(&LISTING), LISTING_REPORT);
-        let owner = "E open 3\nT 0 a new - - -\nL 65 65 1\n";
+        let owner = "E open 3\nT 0 a new - - - -\nL 65 65 1\n";
         assert_eq!(shown(&["W 2", "T a 0", "P 1 3"]), owner);
-        let left = "E open 7\nT 0 a new - - -\nL 65 66 -\n";
+        let left = "E open 7\nT 0 a new - - - -\nL 65 66 -\n";
         assert_eq!(shown(&["W 2", "T a 0", "P 1 7"]), left);
     }
 
@@ -83,7 +83,7 @@ mod examples {
     /// owns the lock after two picks more.
     #[test]
     fn seeded_pick() {
-        let owner = "E open 3\nT 0 a new - - -\nL 65 65 2\n";
+        let owner = "E open 3\nT 0 a new - - - -\nL 65 65 2\n";
         assert_eq!(shown(&["W 4", "T a 0", "S 0 1", "P 2 2"]), owner);
     }
 
@@ -193,7 +193,7 @@ mod buffers {
     fn one_store_for_many_runs() {
         let mut store = vec![0; STORE + 5];
         for plan in plans() {
-            let (mut output, mut expected) = (vec![0; 12_000], vec![0; 12_000]);
+            let (mut output, mut expected) = (vec![0; REPORT_SIZE], vec![0; REPORT_SIZE]);
             let answer = run(&plan, u64::MAX, &mut store, &mut output);
             let second = second::run::run(&plan, u64::MAX, &mut [0; STORE], &mut expected);
             assert_eq!(answer, second);
@@ -208,6 +208,12 @@ mod buffers {
             .map(|_| second::random::plan(rng, second::random::Shape::Small))
             .collect()
     }
+}
+
+#[test]
+fn report_size_of_the_header() {
+    let header = include_str!("../../../include/salfunye.h");
+    assert!(header.contains(&format!("#define SALFUNYE_REPORT_SIZE {REPORT_SIZE}\n")));
 }
 
 #[test]
