@@ -1,6 +1,9 @@
 //! compare COUNT SEED: has the proof checker compute the bench's definitions on COUNT random plans
 //! and holds each whole answer (report or refusal, picks, store, output) to this implementation's.
 
+use second::machine::{Machine, Place, CAPACITY, SLOTS};
+use second::order::Picks;
+use second::plan::check;
 use second::random::Rng;
 use second::{random, run};
 use std::fmt::Write as _;
@@ -29,13 +32,33 @@ struct Call {
     output: usize,
 }
 
+/// Picks after which a task is held: just before and just after a hand-over to a waiter that is served.
+fn held(text: &[u8]) -> Vec<u64> {
+    let Ok(plan) = check(text) else {
+        return Vec::new();
+    };
+    let mut machine = Machine::new(&plan, SLOTS, CAPACITY);
+    let mut picks = Vec::new();
+    for worker in Picks::new(&plan) {
+        if machine.finished() {
+            break;
+        }
+        if machine.workers[worker].place == Place::HandOver {
+            picks.extend([machine.picks, machine.picks + 1]);
+        }
+        machine.step(worker);
+    }
+    picks
+}
+
 fn draw(seed: u64) -> Call {
     let text = random::sample(seed);
     let mut rng = Rng::new(seed ^ 0x5eed);
-    let limit = if rng.below(2) == 0 {
-        u64::MAX
-    } else {
-        rng.below(200)
+    let held = held(&text);
+    let limit = match rng.below(4) {
+        0 | 1 => u64::MAX,
+        2 if !held.is_empty() => rng.choose(&held),
+        _ => rng.below(200),
     };
     let store = match rng.below(12) {
         0 => STORE - 1,
