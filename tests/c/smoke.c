@@ -1,6 +1,6 @@
 /*
  * A C caller of the bench and of the lock, by the header alone: the paper's
- * listing, refusals, what is left in store and output, and one turn of the lock.
+ * listing, refusals, what is left in store and output, and some turns of the lock.
  * Buffers are taken from the heap in their exact sizes, so that a memory checker
  * sees a step past their ends.
  */

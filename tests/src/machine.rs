@@ -315,7 +315,7 @@ impl Machine {
         }
     }
 
-    /// Who is let in has its task given from here on, whenever it looks.
+    /// A task that waits in the cell of who is let in has its giver from here on, before the look.
     fn hand_over(&mut self, owner: usize) {
         let ticket = self.lock.tail;
         let handed = self.lock.hand_over(owner);
