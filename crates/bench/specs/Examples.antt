@@ -51,11 +51,11 @@ starred =
     prints "" "X\t3\t1\n"
     ∷ prints "W\t0\n" "X\t2\t1\n"
     ∷ prints "W\t1\n" "E\tfinished\t0\nL\t64\t65\t-\n"
-    ∷ prints "W\t1\nT\ta\t0\n" "E\topen\t0\nT\t0\ta\tnew\t-\t-\t-\nL\t64\t65\t-\n"
-    ∷ prints "W\t1\nT\ta\t0\nR\t20\n" "E\tfinished\t10\nT\t0\ta\tover\t0\t8\t10\nL\t65\t66\t-\n"
-    ∷ prints "W\t2\nT\ta\t0\nP\t1\t3\nP\t0\t5\nP\t1\t4\nP\t0\t2\n" "E\tfinished\t14\nT\t0\ta\tover\t0\t13\t14\nL\t66\t66\t1\n"
-    ∷ prints "W\t2\nT\ta\t0\nP\t1\t3\n" "E\topen\t3\nT\t0\ta\tnew\t-\t-\t-\nL\t65\t65\t1\n"
-    ∷ prints "W\t2\nT\ta\t0\nP\t1\t7\n" "E\topen\t7\nT\t0\ta\tnew\t-\t-\t-\nL\t65\t66\t-\n"
+    ∷ prints "W\t1\nT\ta\t0\n" "E\topen\t0\nT\t0\ta\tnew\t-\t-\t-\t-\nL\t64\t65\t-\n"
+    ∷ prints "W\t1\nT\ta\t0\nR\t20\n" "E\tfinished\t10\nT\t0\ta\tover\t0\t8\t10\t0\nL\t65\t66\t-\n"
+    ∷ prints "W\t2\nT\ta\t0\nP\t1\t3\nP\t0\t5\nP\t1\t4\nP\t0\t2\n" "E\tfinished\t14\nT\t0\ta\tover\t0\t13\t14\t1\nL\t66\t66\t1\n"
+    ∷ prints "W\t2\nT\ta\t0\nP\t1\t3\n" "E\topen\t3\nT\t0\ta\tnew\t-\t-\t-\t-\nL\t65\t65\t1\n"
+    ∷ prints "W\t2\nT\ta\t0\nP\t1\t7\n" "E\topen\t7\nT\t0\ta\tnew\t-\t-\t-\t-\nL\t65\t66\t-\n"
     ∷ picks "W\t4\nS\t0\t1\n" (2 ∷ [])
     ∷ prints "W\t1\nT\ta\t0\tr5\tr5\n" "X\t5\t2\n"
     ∷ prints "W\t1\nT\ta\t0\tr1\tr2\tr3\tr4\tr1\n" "X\t4\t2\n"
@@ -66,3 +66,14 @@ starred =
 pub examples : AllHold starred
 unfolding computed finishedFor flagsFor picksFor
 examples = (refl, (refl, (refl, (refl, (refl, (refl, (refl, (refl, (refl, (refl, (refl, ((refl, refl), tt))))))))))))
+
+-- a task in a cell has no giver before the hand-over that lets its taker in, and has it from then on, before the taker has looked
+abbrev pub heldOnes : List Example
+heldOnes =
+    prints "W\t2\nT\ta\t0\nP\t1\t3\nP\t0\t5\nP\t1\t3\n" "E\topen\t11\nT\t0\ta\theld\t-\t-\t-\t-\nL\t66\t65\t1\n"
+    ∷ prints "W\t2\nT\ta\t0\nP\t1\t3\nP\t0\t5\nP\t1\t4\n" "E\topen\t12\nT\t0\ta\theld\t-\t-\t-\t1\nL\t66\t66\t1\n"
+    ∷ []
+
+pub givers-shown : AllHold heldOnes
+unfolding computed
+givers-shown = (refl, (refl, tt))

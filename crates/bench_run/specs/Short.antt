@@ -1,4 +1,4 @@
--- No report of an accepted plan is longer than 11,745 bytes.
+-- No report of an accepted plan is longer than 14,433 bytes.
 use Prim.Native.Nat.{ℕ, _≤_}
 use mathlib.Core.Path.{_≡_}
 use mathlib.Core.List.{List}
@@ -12,7 +12,7 @@ use Rattle.machine.specs.Safety.{noted}
 use Rattle.machine.specs.Safety.Owners.{owner-below}
 use Rattle.report.specs.Sizes.{longest, Small, report-short}
 use Rattle.orders.specs.Reached.{setupOf, reached}
-use Rattle.orders.specs.AcceptedRuns.{playable, own-picks, numbers-small}
+use Rattle.orders.specs.AcceptedRuns.{playable, own-picks, own-givers, numbers-small}
 use Rattle.play.specs.Outcome.{reportOf}
 
 module _ (text : List ℕ) (p : Plan) (e : reading text ≡ accepted p) (limit : ℕ) where
@@ -32,6 +32,7 @@ module _ (text : List ℕ) (p : Plan) (e : reading text ≡ accepted p) (limit :
         runner = λ i l. omega (arith, (notes i) .0);
         receipt = λ i l. omega (arith, (notes i) .1);
         ending = λ i l. omega (arith, (notes i) .2);
+        giver = λ i g l h. omega (arith, own-givers text p e limit i .worker g h);
       }
 
   pub accepted-short : length (reportOf p limit) ≤ longest

@@ -88,6 +88,14 @@ front N l =
       | false ↦ none
     ]
 
+-- what a hand-over tells: whom it lets in, nobody where that ticket isn't registered, and whose session did it
+pub record Told : Type 0 where
+  pub letIn : Option ℕ
+  pub by : ℕ
+
+unfoldable pub tells : ℕ → Lock → ℕ → Told
+tells N l owner = record { letIn = front N l; by = owner }
+
 -- the lock is free when the tail is one past the head
 unfoldable pub isFree : Lock → Bool
 isFree l = eqb (l .tail) (suc (l .head))

@@ -4,13 +4,13 @@ use mathlib.Core.Path.{_≡_, refl}
 use mathlib.Core.Bool.{true, false}
 use mathlib.Core.List.{List, [], _∷_}
 use mathlib.Core.Option.{none, some}
-use Prim.Native.Nat.{ℕ, _+_, _%_}
+use Prim.Native.Nat.{ℕ, zero, suc, _+_, _%_}
 use native.Mathlib.Omega.{arith}
 use Rattle.runs.specs.Update.{upd}
 use Rattle.lock.specs.Lock as lock
-use Rattle.lock.specs.Lock.{Lock, start, takeTicket, join, turn, handOver, front, workerIn, isFree, notYet, owns, look}
+use Rattle.lock.specs.Lock.{Lock, EMPTY, start, takeTicket, join, turn, handOver, front, workerIn, Told, tells, isFree, notYet, owns, look}
 use Rattle.lock.specs.History.{Stand, take, register, own, receive, fill, pass, leave, try, after, Move, still, then, History}
-use Rattle.lock.specs.History.{handOvers}
+use Rattle.lock.specs.History.{handsOver, handOvers}
 use Rattle.lock.specs.History.{can-take, can-register, can-own, can-receive, can-fill, can-pass, can-leave, can-try}
 
 abbrev pub moves : List Move
@@ -27,10 +27,15 @@ moves =
     ∷ record { by = 1; op = take }
     ∷ []
 
-pub played : (l : Lock) × (st : ℕ → Stand) × History 2 64 moves l st × (l .head ≡ 67) × (l .tail ≡ 67) × (handOvers moves ≡ 2)
-unfolding upd start takeTicket lock.register join turn handOver front workerIn isFree lock.fill look handOvers after
+-- the lock after such moves from the start
+unfoldable pub reached : List Move → Lock
+reached [] = start 64
+reached (m ∷ ms) = after 64 (reached ms) (m .by) (m .op)
+
+pub played : (st : ℕ → Stand) × History 2 64 moves (reached moves) st
+    × (reached moves .head ≡ 67) × (reached moves .tail ≡ 67) × (handOvers moves ≡ 2)
+unfolding upd start takeTicket lock.register join turn handOver front workerIn isFree lock.fill look handOvers after reached
 played = (
-  _,
   _,
   then (then (then (then (then (then (then (then (then (then still
       1 (omega arith) take (can-take refl))
@@ -48,6 +53,16 @@ played = (
   refl,
 )
 
+-- what the hand-overs among moves tell, the latest first
+unfoldable pub tellings : List Move → List Told
+tellings [] = []
+tellings (m ∷ ms) = elim (handsOver (m .op)) [ zero ↦ tellings ms | suc _ ↦ tells 64 (reached ms) (m .by) ∷ tellings ms ]
+
+-- worker 1 lets in worker 0, and nobody when it leaves: the next ticket is not taken yet
+pub tellings-played : tellings moves ≡ record { letIn = none; by = 1 } ∷ record { letIn = some 0; by = 1 } ∷ []
+unfolding upd start takeTicket lock.register join handOver front workerIn tells lock.fill after reached tellings
+tellings-played = refl
+
 -- a ring of four slots with the tail at 8, and one registration in its slot
 abbrev pub with : ℕ → Lock
 with r = record { head = 10; tail = 8; wait = λ k. 4 + k % 4; registration = λ _. r; cellTicket = λ _. 0; cellTask = λ _. 0 }
@@ -57,6 +72,12 @@ with r = record { head = 10; tail = 8; wait = λ k. 4 + k % 4; registration = λ
 pub seen : (front 4 (with 8) ≡ some 0) × (front 4 (with 5) ≡ none) × (look 4 (with 8) 7 1 ≡ owns) × (look 4 (with 8) 8 0 ≡ notYet)
 unfolding turn front workerIn look
 seen = (refl, refl, refl, refl)
+
+-- handing over, worker 3 lets in that front waiter, and nobody where the registration is of the lap before or the slot is empty
+pub told : (tells 4 (with 8) 3 ≡ record { letIn = some 0; by = 3 })
+    × (tells 4 (with 5) 3 .letIn ≡ none) × (tells 4 (with EMPTY) 3 .letIn ≡ none)
+unfolding front workerIn tells
+told = (refl, refl, refl)
 
 -- a hand-over lets in the tail and no later ticket, even in a ring of one slot
 pub let-in : (turn 1 (handOver 1 (with 8)) 8 ≡ true) × (turn 1 (handOver 1 (with 8)) 9 ≡ false)

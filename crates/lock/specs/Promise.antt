@@ -4,15 +4,16 @@ use mathlib.Core.Logic.{_⊎_, _≢_, _↔_}
 use mathlib.Core.Bool.{true, false}
 use mathlib.Core.Option.{none, some}
 use mathlib.Core.List.{List, [], _∷_, _++_, List·Memᴰ}
-use Prim.Native.Nat.{ℕ, suc, _+_, _-_, _≤_, _<_}
+use Prim.Native.Nat.{ℕ, suc, _+_, _-_, _%_, _≤_, _<_}
 use native.Mathlib.Omega.{arith}
 use lib.ListN.{length}
 use Rattle.runs.specs.Update.{upd}
 use Rattle.lock.specs.Lock as lock
-use Rattle.lock.specs.Lock.{Lock, EMPTY, start, turn, join, workerIn, distance, front, isFree, notYet, receives, owns, look}
+use Rattle.lock.specs.Lock.{Lock, EMPTY, start, turn, join, workerIn, distance, front, tells, isFree, notYet, receives, owns, look}
 use Rattle.lock.specs.History.{Stand, out, taken, waiting, owning, serving, Op, take, register, own, receive, fill, pass, leave, try}
 use Rattle.lock.specs.History.{Can, after, standAfter, handsOver, takes, registers, fills, Move, handOvers, Run, History}
 use Rattle.lock.specs.History.{Holds, Owner, Served, Due, Called, InCell}
+use Rattle.lock.specs.Inside.Looks as Looks
 use Rattle.lock.specs.Inside.Invariant.{Inv}
 use Rattle.lock.specs.Inside.Facts as Facts
 use Rattle.lock.specs.Inside.Keeps as Keeps
@@ -178,6 +179,30 @@ module _ {W N : ℕ} {l : Lock} {st : ℕ → Stand} (k : Kept W N l st) where
   pub front-still : (v : ℕ) → front N l ≡ some v → (op : Op) → Can N l (st v) v op → ⊥
   front-still = Changes.front-still (k .inv)
 
+  -- ---- what a hand-over tells
+
+  -- it lets in exactly the worker that waits with the tail, and nobody exactly when none is registered with it
+  pub told-iff : (w v : ℕ) → (tells N l w .letIn ≡ some v) ↔ ((v < W) × (st v ≡ waiting (l .tail)))
+  unfolding tells
+  told-iff w = front-iff
+
+  pub told-nobody-iff : (w : ℕ) → (tells N l w .letIn ≡ none) ↔ ((v : ℕ) → st v ≢ waiting (l .tail))
+  unfolding tells
+  told-nobody-iff w = front-none-iff
+
+  -- whom it lets in is who waits with a ticket whose turn comes by it: it had not come before, and has come after
+  pub told-turn : (w : ℕ) (op : Op) → handsOver op ≡ 1 → (v : ℕ)
+      → (tells N l w .letIn ≡ some v)
+      ↔ ((v < W) × (t : ℕ) × (st v ≡ waiting t) × (turn N l t ≡ false) × (turn N (after N l w op) t ≡ true))
+  unfolding tells
+  told-turn = Changes.front-turn (k .inv)
+
+  -- the session is that of the owner, and there is no other owner
+  pub told-owner : (w : ℕ) (op : Op) → Can N l (st w) w op → handsOver op ≡ 1
+      → Owner (st w) × ((v : ℕ) → Owner (st v) → v ≡ tells N l w .by)
+  unfolding tells
+  told-owner w op can one = let owner = (Changes.hands-stand can one) .0 in (owner, λ v o. one-owner v w o owner)
+
   -- ---- cells
 
   -- what lies in the cell of a waiting worker is received as soon as its turn has come, and not before
@@ -251,6 +276,17 @@ joined t w = refl
 pub worker-joined : (t w : ℕ) → workerIn (join t w) t ≡ w
 unfolding join workerIn
 worker-joined t w = omega arith
+
+-- it was the session of the worker that handed over
+pub told-by : (N : ℕ) (l : Lock) (w : ℕ) → tells N l w .by ≡ w
+unfolding tells
+told-by N l w = refl
+
+-- no registration of an earlier lap is told, in a ring that has a slot for each worker
+pub told-lap : (W N : ℕ) → W ≤ N → (l : Lock) (w t v : ℕ) → t < l .tail → t % N ≡ l .tail % N → v < W
+    → l .registration (l .tail % N) ≡ join t v → tells N l w .letIn ≡ none
+unfolding tells
+told-lap W N fits l w t v old slot below e = Looks.front-lap N l t v old slot (omega arith) e
 
 -- who receives has a cell with its ticket, and who owns has none
 pub look-received : (N : ℕ) (l : Lock) (t w j : ℕ) → look N l t w ≡ receives j → (l .cellTicket w ≡ t) × (l .cellTask w ≡ j)

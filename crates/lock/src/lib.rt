@@ -8,7 +8,7 @@ ghost use lib.ListN.{length, set, replicate};
 ghost use Rattle.lock.specs.Lock as L;
 ghost use Rattle.lock.specs.Lock.{EMPTY, join, workerIn};
 ghost use Rattle.lock.specs.Arrays.{lockOf};
-ghost use Rattle.lock.specs.Answers.{seen, waiter};
+ghost use Rattle.lock.specs.Answers.{seen, waiter, told};
 
 // A ticket and a worker's number: `joined` alone adds the two.
 pub struct Ticket(pub u64);
@@ -35,6 +35,13 @@ pub enum Looked {
 pub enum Front {
     Nobody,
     Waiter(Worker),
+}
+
+// The ends after a hand-over, whom it let in, and whose session did it.
+pub struct HandedOver {
+    pub ends: Ends,
+    pub let_in: Front,
+    pub by: Worker,
 }
 
 // A registration: the one place where a ticket and a worker number are added.
@@ -162,25 +169,6 @@ pub fn look(
     }
 }
 
-// Writes the tail into its wait slot and raises it.
-pub fn hand_over(slots: u64, ends: Ends, wait: &mut [u64]) -> Ends
-    requires { ⌜ (0 < slots) × (slots ≤ length (now wait)) × (ends .tail .0 + 1 < 2 ^ 64) ⌝ }
-    ensures ends { λ r. ⌜ (r .head .0 ≡ ends .head .0) × (r .tail .0 ≡ ends .tail .0 + 1) ⌝ }
-    ensures waits { λ _. ⌜ now (wait .exit) ≡ set (now (wait .entry)) (ends .tail .0 % slots) (ends .tail .0) ⌝ }
-    ensures lock { λ r. ⌜ ((registrations tickets tasks : List ℕ) →
-        lockOf slots (r .head .0) (r .tail .0) (now (wait .exit)) registrations tickets tasks
-        ≡ L.handOver slots (lockOf slots (ends .head .0) (ends .tail .0) (now (wait .entry)) registrations tickets tasks)) ⌝ }
-{
-    let head = ends.head;
-    let tail = ends.tail;
-    let at = slot(tail, slots);
-    wait[at] = tail.0;
-    Ends {
-        head,
-        tail: Ticket(tail.0 + 1),
-    }
-}
-
 // The worker that is registered with the tail.
 pub fn front_waiter(slots: u64, ends: Ends, registrations: &[u64]) -> Front
     requires { ⌜ (0 < slots) × (slots ≤ length (now registrations)) ⌝ }
@@ -195,6 +183,40 @@ pub fn front_waiter(slots: u64, ends: Ends, registrations: &[u64]) -> Front
         return Front::Nobody;
     }
     Front::Waiter(worker_in(registration, tail))
+}
+
+// Writes the tail into its wait slot and raises it; tells whom this lets in, the session being the owner's.
+pub fn hand_over(
+    slots: u64,
+    ends: Ends,
+    wait: &mut [u64],
+    registrations: &[u64],
+    owner: Worker,
+) -> HandedOver
+    requires { ⌜ (0 < slots) × (slots ≤ length (now wait)) × (slots ≤ length (now registrations)) × (ends .tail .0 + 1 < 2 ^ 64) ⌝ }
+    ensures ends { λ r. ⌜ (r .ends .head .0 ≡ ends .head .0) × (r .ends .tail .0 ≡ ends .tail .0 + 1) ⌝ }
+    ensures waits { λ _. ⌜ now (wait .exit) ≡ set (now (wait .entry)) (ends .tail .0 % slots) (ends .tail .0) ⌝ }
+    ensures lock { λ r. ⌜ ((tickets tasks : List ℕ) →
+        lockOf slots (r .ends .head .0) (r .ends .tail .0) (now (wait .exit)) (now (registrations .entry)) tickets tasks
+        ≡ L.handOver slots
+        (lockOf slots (ends .head .0) (ends .tail .0) (now (wait .entry)) (now (registrations .entry)) tickets tasks)) ⌝ }
+    ensures tells { λ r. ⌜ ((tickets tasks : List ℕ) →
+        told r ≡ L.tells slots
+        (lockOf slots (ends .head .0) (ends .tail .0) (now (wait .entry)) (now (registrations .entry)) tickets tasks) (owner .0)) ⌝ }
+{
+    let let_in = front_waiter(slots, ends, registrations);
+    let head = ends.head;
+    let tail = ends.tail;
+    let at = slot(tail, slots);
+    wait[at] = tail.0;
+    HandedOver {
+        ends: Ends {
+            head,
+            tail: Ticket(tail.0 + 1),
+        },
+        let_in,
+        by: owner,
+    }
 }
 
 // Whether the tail is one past the head.

@@ -1,12 +1,12 @@
 // The lock for callers in C and Rust: numbers and slices in, numbers out. Each function takes any arguments. It refuses exactly those
-// that the lock's function of that name does not take, and changes nothing then; on all others it says what that function answers and writes.
-// `Answered F A R` says: where the arguments are such that F, A; where they are not, R.
+// that the lock's function of that name does not take, and changes nothing then; on all others it says what that function answers and
+// writes. `Answered F A R` says: where the arguments are such that F, A; where they are not, R.
 ghost use mathlib.Core.Path.{_≡_};
 ghost use mathlib.Core.Bool.{true, false};
 ghost use mathlib.Core.List.{List};
 ghost use Prim.Native.Nat.{ℕ, _+_, _%_, _^_, _≤_, _<_};
 ghost use lib.ListN.{length, set, replicate};
-ghost use Rattle.lock.specs.Lock.{join, isFree, look as looks, front};
+ghost use Rattle.lock.specs.Lock.{join, isFree, look as looks, front, tells};
 ghost use Rattle.lock.specs.Arrays.{lockOf};
 ghost use Rattle.lock.specs.Answers.{seen, waiter};
 ghost use Rattle.lock_c.specs.Answered.{Answered};
@@ -35,6 +35,17 @@ pub struct Taken {
 pub struct Answer {
     pub kind: u64,
     pub value: u64,
+}
+
+// A hand-over: `kind` and `let_in` tell whom it let in as an `Answer` does, `by` whose session did it.
+#[repr(C)]
+pub struct Handed {
+    pub ok: u64,
+    pub head: u64,
+    pub tail: u64,
+    pub kind: u64,
+    pub let_in: u64,
+    pub by: u64,
 }
 
 fn ends_at(head: u64, tail: u64) -> lock::Ends
@@ -169,7 +180,8 @@ pub extern "C" fn salfunye_lock_look(
         × (worker < length (now («cell_tickets» .entry))) × (worker < length (now («cell_tasks» .entry))))
         ((head tail : ℕ) (registrations : List ℕ) →
         TellsLook (r .kind) (r .value)
-        (looks slots (lockOf slots head tail (now (wait .entry)) registrations (now («cell_tickets» .entry)) (now («cell_tasks» .entry))) ticket worker))
+        (looks slots (lockOf slots head tail (now (wait .entry)) registrations (now («cell_tickets» .entry)) (now («cell_tasks» .entry)))
+        ticket worker))
         ((r .kind ≡ 0) × (r .value ≡ 0)) ⌝ }
 {
     if slots == 0 {
@@ -194,31 +206,66 @@ pub extern "C" fn salfunye_lock_look(
     ))
 }
 
+fn not_handed(head: u64, tail: u64) -> Handed
+    ensures { λ r. ⌜ (r .ok ≡ 0) × (r .head ≡ head) × (r .tail ≡ tail) × (r .kind ≡ 0) × (r .«let_in» ≡ 0) × (r .by ≡ 0) ⌝ }
+{
+    Handed {
+        ok: 0,
+        head,
+        tail,
+        kind: 0,
+        let_in: 0,
+        by: 0,
+    }
+}
+
 #[no_mangle]
 pub extern "C" fn salfunye_lock_hand_over(
     slots: u64,
     head: u64,
     tail: u64,
     wait: &mut [u64],
-) -> Ends
-    ensures { λ r. ⌜ Answered ((0 < slots) × (slots ≤ length (now (wait .entry))) × (tail + 1 < 2 ^ 64))
-        ((r .ok ≡ 1) × (r .head ≡ head) × (r .tail ≡ tail + 1) × (now (wait .exit) ≡ set (now (wait .entry)) (tail % slots) tail))
-        ((r .ok ≡ 0) × (r .head ≡ head) × (r .tail ≡ tail) × (now (wait .exit) ≡ now (wait .entry))) ⌝ }
+    registrations: &[u64],
+    owner: u64,
+) -> Handed
+    ensures { λ r. ⌜ Answered ((0 < slots) × (slots ≤ length (now (wait .entry))) × (slots ≤ length (now (registrations .entry)))
+        × (tail + 1 < 2 ^ 64))
+        ((r .ok ≡ 1) × (r .head ≡ head) × (r .tail ≡ tail + 1)
+        × ((tickets tasks : List ℕ) → TellsFront (r .kind) (r .«let_in»)
+        (tells slots (lockOf slots head tail (now (wait .entry)) (now (registrations .entry)) tickets tasks) owner .letIn))
+        × (r .by ≡ owner)
+        × (now (wait .exit) ≡ set (now (wait .entry)) (tail % slots) tail))
+        ((r .ok ≡ 0) × (r .head ≡ head) × (r .tail ≡ tail) × (r .kind ≡ 0) × (r .«let_in» ≡ 0) × (r .by ≡ 0)
+        × (now (wait .exit) ≡ now (wait .entry))) ⌝ }
 {
     if slots == 0 {
-        return Ends { ok: 0, head, tail };
+        return not_handed(head, tail);
     }
     if wait.len() < slots as usize {
-        return Ends { ok: 0, head, tail };
+        return not_handed(head, tail);
+    }
+    if registrations.len() < slots as usize {
+        return not_handed(head, tail);
     }
     if tail == MOST {
-        return Ends { ok: 0, head, tail };
+        return not_handed(head, tail);
     }
-    let ends = lock::hand_over(slots, ends_at(head, tail), wait);
-    Ends {
+    let handed = lock::hand_over(
+        slots,
+        ends_at(head, tail),
+        wait,
+        registrations,
+        lock::Worker(owner),
+    );
+    let front = handed.let_in;
+    let let_in = front_answer(front);
+    Handed {
         ok: 1,
-        head: ends.head.0,
-        tail: ends.tail.0,
+        head: handed.ends.head.0,
+        tail: handed.ends.tail.0,
+        kind: let_in.kind,
+        let_in: let_in.value,
+        by: handed.by.0,
     }
 }
 

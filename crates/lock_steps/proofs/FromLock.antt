@@ -1,21 +1,27 @@
 -- What the lock's functions promise, as operations on the lock of the state.
 use Prim.Native.Nat.{ℕ, _+_, _%_, _^_, _<_}
 use native.Mathlib.Omega.{arith}
-use mathlib.Core.Path.{_≡_, sym, ap, _∙_}
+use mathlib.Core.Path.{_≡_, refl, sym, ap, _∙_}
 use mathlib.Core.Bool.{Bool}
 use mathlib.Core.List.{List}
+use mathlib.Core.Option.{none}
 use lib.ListN.{set}
 use Rattle.lock.specs.Lock as L
 use Rattle.lock.specs.History as LH
 use Rattle.lock.specs.Promise as Promise
 use Rattle.lock.specs.Arrays.{lockOf}
-use Rattle.lock.specs.Answers.{seen, waiter}
+use Rattle.lock.specs.Answers.{seen, waiter, told}
 use Rattle.lock.specs.declared.Ends.{Ends}
 use Rattle.lock.specs.declared.Taken.{Taken}
 use Rattle.lock.specs.declared.Looked.{Looked}
 use Rattle.lock.specs.declared.Front.{Front}
+use Rattle.lock.specs.declared.Front.the-variants.{Nobody, Waiter}
+use Rattle.lock.specs.declared.HandedOver.{HandedOver}
+use Rattle.lock.specs.declared.Worker.{Worker}
+use Rattle.machine.specs.Event.{found, handed}
 use Rattle.steps.specs.Layout.{SLOTS}
 use Rattle.steps.specs.Memory.{Memory, Able}
+use Rattle.lock_steps.specs.Lent.{lockIn, handedIn}
 
 -- the lock with these ends
 abbrev lockAt : ℕ → Ends → (wait registrations tickets cells : List ℕ) → L.Lock
@@ -34,12 +40,13 @@ Registered ticket worker before after =
     × ((head tail : ℕ) (wait tickets cells : List ℕ)
     → lockOf SLOTS head tail wait after tickets cells ≡ L.register SLOTS (lockOf SLOTS head tail wait before tickets cells) ticket worker)
 
-abbrev pub HandedOver : (ends next : Ends) → (before after : List ℕ) → Type 0
-HandedOver ends next before after =
-    ((next .head .0 ≡ ends .head .0) × (next .tail .0 ≡ ends .tail .0 + 1))
+abbrev pub HandsOver : Ends → (before after registrations : List ℕ) → ℕ → HandedOver → Type 0
+HandsOver ends before after registrations w r =
+    ((r .ends .head .0 ≡ ends .head .0) × (r .ends .tail .0 ≡ ends .tail .0 + 1))
     × ((after ≡ set before (ends .tail .0 % SLOTS) (ends .tail .0))
-    × ((registrations tickets cells : List ℕ)
-    → lockAt SLOTS next after registrations tickets cells ≡ L.handOver SLOTS (lockAt SLOTS ends before registrations tickets cells)))
+    × (((tickets cells : List ℕ)
+    → lockIn (r .ends) after registrations tickets cells ≡ L.handOver SLOTS (lockIn ends before registrations tickets cells))
+    × ((tickets cells : List ℕ) → told r ≡ L.tells SLOTS (lockIn ends before registrations tickets cells) w)))
 
 abbrev pub Filled : Ends → (worker task : ℕ) → (tickets stamped cells filled : List ℕ) → Type 0
 Filled ends worker task tickets stamped cells filled =
@@ -60,6 +67,31 @@ abbrev pub Frees : Ends → Bool → Type 0
 Frees ends r =
     (slots : ℕ) (wait registrations tickets cells : List ℕ)
     → r ≡ L.isFree (lockOf slots (ends .head .0) (ends .tail .0) wait registrations tickets cells)
+
+-- ---- what a hand-over gives, by its answer
+
+module _ (ends : Ends) (before after registrations : List ℕ) (w : ℕ) (r : HandedOver) (k : HandsOver ends before after registrations w r)
+    (tickets cells : List ℕ) where
+  abbrev lock : L.Lock
+  lock = lockIn ends before registrations tickets cells
+
+  pub told-front : {x : Front} → r .«let_in» ≡ x → L.front SLOTS lock ≡ waiter x
+  unfolding L.tells
+  told-front e = sym (ap (λ (t : L.Told). t .letIn) (k .1 .1 .1 tickets cells)) ∙ ap waiter e
+
+  pub told-by : r .by .0 ≡ w
+  unfolding L.tells
+  told-by = ap (λ (t : L.Told). t .by) (k .1 .1 .1 tickets cells)
+
+  pub hands-nobody : r .«let_in» ≡ Nobody → handedIn lock w ≡ none
+  unfolding handed L.tells
+  hands-nobody e = rw (told-front e, handed) refl
+
+  pub hands-found : (v : Worker) → r .«let_in» ≡ Waiter v → (x : Looked) → Sees after tickets cells (ends .tail .0) (v .0) x
+      → handedIn lock w ≡ found w (v .0) (seen x)
+  unfolding handed L.tells
+  hands-found v e x sees =
+      rw (told-front e, handed, ← k .1 .1 .0 tickets cells, sees (r .ends .head .0) (r .ends .tail .0) registrations) refl
 
 module _ {m : Memory} {own : List ℕ} {w : ℕ} (a : Able m own w) where
   -- ---- its numbers
@@ -126,13 +158,12 @@ module _ {m : Memory} {own : List ℕ} {w : ℕ} (a : Able m own w) where
   after-fill v i k =
       rw (Promise.after-fill (a .c .slots) (a .s .lock) w v i, ← a .holds .lock) (k .1 .1 (a .c .slots) (m .wait) (m .registrations))
 
-  module _ {next : Ends} {written : List ℕ} (k : HandedOver (m .counts .ends) next (m .wait) written) where
+  -- the lock after a hand-over
+  module _ (next : Ends) (written : List ℕ)
+      (k : lockAt SLOTS next written (m .registrations) (m .tickets) (m .cells)
+      ≡ L.handOver SLOTS (lockAt SLOTS (m .counts .ends) (m .wait) (m .registrations) (m .tickets) (m .cells))) where
     pub after-pass : lockWith next written (m .registrations) (m .tickets) (m .cells) ≡ after LH.pass
-    after-pass =
-        rw (Promise.after-pass (a .c .slots) (a .s .lock) w, ← a .holds .lock, a .fit .sized .slots)
-        (k .1 .1 (m .registrations) (m .tickets) (m .cells))
+    after-pass = rw (Promise.after-pass (a .c .slots) (a .s .lock) w, ← a .holds .lock, a .fit .sized .slots) k
 
     pub after-leave : lockWith next written (m .registrations) (m .tickets) (m .cells) ≡ after LH.leave
-    after-leave =
-        rw (Promise.after-leave (a .c .slots) (a .s .lock) w, ← a .holds .lock, a .fit .sized .slots)
-        (k .1 .1 (m .registrations) (m .tickets) (m .cells))
+    after-leave = rw (Promise.after-leave (a .c .slots) (a .s .lock) w, ← a .holds .lock, a .fit .sized .slots) k

@@ -30,7 +30,7 @@ withLock m ends wait registrations tickets cells =
       registrations = registrations;
       tickets = tickets;
       cells = cells;
-      ready = m .ready;
+      device = m .device;
       rows = m .rows;
       accesses = m .accesses;
     }
@@ -71,7 +71,7 @@ module _ {m : Memory} {own : List ℕ} {w : ℕ} (a : Able m own w) where
   module _ (e : Event) (is : event (a .c) (a .s) w ≡ e) where
     -- the lock and the worker's place change, and nothing else
     pub goes : taskOp e ≡ none → (to : Place)
-        → effect (a .c) (a .s) w e ≡ record { place = to; queue = a .s .queue; readyList = a .s .readyList }
+        → effect (a .c) (a .s) w e ≡ record { place = to; queue = a .s .queue; readyList = a .s .readyList; giver = a .s .giver }
         → (ends : Ends) (wait registrations tickets cells : List ℕ)
         → lockOf (a .c .slots) (ends .head .0) (ends .tail .0) wait registrations tickets cells ≡ lockAfter (a .c) (a .s .lock) w (lockOp e)
         → (next : List ℕ) → part next ≡ part own → Stationed (station next) to (a .s .queue w)
@@ -84,6 +84,7 @@ module _ {m : Memory} {own : List ℕ} {w : ℕ} (a : Able m own w) where
         (λ v d. rw effects)
         (a .holds .device .ready-at)
         (rw effects (a .holds .device .ready))
+        (rw effects (a .holds .device .givers))
         refl
 
     -- the tasks after the event's operation on them

@@ -115,6 +115,7 @@ module _ {m : Memory} {own : List ℕ} {w : ℕ} (a : Able m own w) where
           (λ v d. refl)
           (a .holds .device .ready-at)
           (a .holds .device .ready)
+          (a .holds .device .givers)
           refl
 
   -- ---- a worker tries the lock

@@ -1,11 +1,15 @@
--- A worker's share becomes another, in which the worker is elsewhere.
-use Prim.Native.Nat.{ℕ}
+-- A worker's share becomes another, in which the worker is elsewhere; the device's array becomes another, in which a task has its giver.
+use Prim.Native.Nat.{ℕ, _+_}
 use mathlib.Core.Path.{_≡_}
 use mathlib.Core.List.{List}
+use mathlib.Core.Option.{Option, none, some}
+use lib.ListN.{set}
 use Rattle.tasks.specs.History as TH
 use Rattle.memory.specs.Memory as T
 use Rattle.machine.specs.State.{Place}
+use Rattle.machine.specs.Event.{Handed}
 use Rattle.steps.specs.Codes.{Coded}
+use Rattle.steps.specs.Layout.{GIVERS}
 use Rattle.steps.specs.Memory.{part, station, Stationed}
 
 -- the device's part: the worker is at the place that has code k and number a, and its queue is as it was
@@ -28,3 +32,11 @@ ReceivedBy rows before after next task w time =
 pub record Received (rows own after next : List ℕ) (task w time k : ℕ) : Type 0 where
   pub does : ReceivedBy rows (part own) after (part next) task w time
   pub there : Moved own next k 0
+
+-- the device's array with the giver of a task, and with that of the task that is handed over, if any
+abbrev pub givenBy : List ℕ → ℕ → ℕ → List ℕ
+givenBy device task giver = set device (GIVERS + task) (giver + 1)
+
+abbrev pub handedOn : List ℕ → Option Handed → List ℕ
+handedOn device none = device
+handedOn device (some h) = givenBy device (h .task) (h .by)

@@ -1,18 +1,32 @@
 -- The memory with what a step lends: the numbers, and the content of the arrays that it names.
 use Prim.Native.Nat.{ℕ}
 use mathlib.Core.List.{List}
+use mathlib.Core.Option.{Option}
+use Rattle.lock.specs.Lock as L
+use Rattle.lock.specs.Arrays.{lockOf}
+use Rattle.lock.specs.declared.Ends.{Ends}
+use Rattle.machine.specs.Event.{Handed, handed}
+use Rattle.steps.specs.Layout.{SLOTS}
 use Rattle.steps.specs.Memory.{Memory}
 use Rattle.steps.specs.declared.Counts.{Counts}
 
-abbrev pub withWait : Memory → Counts → List ℕ → Memory
-withWait m n wait =
+-- the lock in what is lent, and what worker w's hand-over of a lock gives
+abbrev pub lockIn : Ends → (wait registrations tickets cells : List ℕ) → L.Lock
+lockIn ends wait registrations tickets cells = lockOf SLOTS (ends .head .0) (ends .tail .0) wait registrations tickets cells
+
+abbrev pub handedIn : L.Lock → ℕ → Option Handed
+handedIn l w = handed SLOTS l (L.tells SLOTS l w)
+
+-- what an owner needs that hands over
+abbrev pub withHanded : Memory → Counts → (wait registrations tickets cells device : List ℕ) → Memory
+withHanded m n wait registrations tickets cells device =
     record {
       counts = n;
       wait = wait;
-      registrations = m .registrations;
-      tickets = m .tickets;
-      cells = m .cells;
-      ready = m .ready;
+      registrations = registrations;
+      tickets = tickets;
+      cells = cells;
+      device = device;
       rows = m .rows;
       accesses = m .accesses;
     }
@@ -25,7 +39,7 @@ withRegistrations m n registrations =
       registrations = registrations;
       tickets = m .tickets;
       cells = m .cells;
-      ready = m .ready;
+      device = m .device;
       rows = m .rows;
       accesses = m .accesses;
     }
@@ -39,21 +53,21 @@ withSeen m n wait tickets cells rows =
       registrations = m .registrations;
       tickets = tickets;
       cells = cells;
-      ready = m .ready;
+      device = m .device;
       rows = rows;
       accesses = m .accesses;
     }
 
 -- what an owner needs that serves
-abbrev pub withServed : Memory → Counts → (registrations tickets cells ready rows : List ℕ) → Memory
-withServed m n registrations tickets cells ready rows =
+abbrev pub withServed : Memory → Counts → (registrations tickets cells device rows : List ℕ) → Memory
+withServed m n registrations tickets cells device rows =
     record {
       counts = n;
       wait = m .wait;
       registrations = registrations;
       tickets = tickets;
       cells = cells;
-      ready = ready;
+      device = device;
       rows = rows;
       accesses = m .accesses;
     }

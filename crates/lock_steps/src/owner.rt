@@ -1,15 +1,22 @@
 // The steps of an owner after it has drained the queues: it serves waiters, takes a task for itself, hands over and leaves.
 ghost use mathlib.Core.Path.{_≡_};
-ghost use Prim.Native.Nat.{_<_};
-ghost use lib.ListN.{getD};
-ghost use Rattle.steps.specs.Layout.{placeAt, SERVING, HANDING, LEAVING, READY};
-ghost use Rattle.steps.specs.Memory.{Memory, oneTaken, Able, Acts};
-ghost use Rattle.lock_steps.specs.Lent.{withWait, withServed};
+ghost use mathlib.Core.List.{List};
+ghost use Prim.Native.Nat.{ℕ, _+_, _^_, _<_};
+ghost use lib.ListN.{length, getD};
+ghost use Rattle.lock.specs.Lock.{handOver};
+ghost use Rattle.memory.specs.Layout as layout;
+ghost use Rattle.steps.specs.Layout.{placeAt, SERVING, HANDING, LEAVING, READY, SLOTS, deviceSize};
+ghost use Rattle.steps.specs.Memory.{Memory, oneTaken, withEnds, Able, Acts};
+ghost use Rattle.lock_steps.specs.Going.{givenBy, handedOn};
+ghost use Rattle.lock_steps.specs.Lent.{lockIn, handedIn, withHanded, withServed};
 use super::go_to;
 use super::receive_to;
 use duties::device::hold;
 use lock::Front;
+use lock::Looked;
+use lock::Worker;
 use steps::Counts;
+use steps::layout::GIVERS;
 use steps::layout::HANDING;
 use steps::layout::IDLE;
 use steps::layout::LEAVING;
@@ -30,24 +37,32 @@ fn one_taken(n: Counts) -> Counts
     r
 }
 
+// Notes who gave a task: the number and 1 more.
+fn note_giver(device: &mut [u64], task: u64, giver: u64)
+    requires { ⌜ (length (now device) ≡ deviceSize) × (task < layout.mostTasks) × (giver + 1 < 2 ^ 64) ⌝ }
+    ensures { λ _. ⌜ now (device .exit) ≡ givenBy (now (device .entry)) task giver ⌝ }
+{
+    device[GIVERS + task as usize] = giver + 1;
+}
+
 // Serves the front waiter with the first ready task, or takes that itself, or none.
 pub fn serve_step(
     n: Counts,
     registrations: &[u64],
     tickets: &mut [u64],
     cells: &mut [u64],
-    ready: &[u64],
+    device: &mut [u64],
     rows: &mut [u64],
     own: &mut [u64],
     w: u64,
 ) -> Counts
-    requires { ⌜ ((m : Memory) × Able (withServed m n (now registrations) (now tickets) (now cells) (now ready) (now rows)) (now own) w)
+    requires { ⌜ ((m : Memory) × Able (withServed m n (now registrations) (now tickets) (now cells) (now device) (now rows)) (now own) w)
         × (getD (now own) placeAt 0 ≡ SERVING) ⌝ }
     ensures { λ r. ⌜ ((m : Memory) →
         Acts
-        (withServed m n (now (registrations .entry)) (now (tickets .entry)) (now (cells .entry)) (now (ready .entry)) (now (rows .entry)))
+        (withServed m n (now (registrations .entry)) (now (tickets .entry)) (now (cells .entry)) (now (device .entry)) (now (rows .entry)))
         (now (own .entry))
-        (withServed m r (now (registrations .entry)) (now (tickets .exit)) (now (cells .exit)) (now (ready .entry)) (now (rows .exit)))
+        (withServed m r (now (registrations .entry)) (now (tickets .exit)) (now (cells .exit)) (now (device .exit)) (now (rows .exit)))
         (now (own .exit)) w) ⌝ }
 {
     if n.ready == 0 {
@@ -55,7 +70,7 @@ pub fn serve_step(
         return n;
     }
     let at = n.ready_at as usize;
-    let task = ready[at];
+    let task = device[at];
     let served = own[NUMBER];
     if served + 1 < n.workers {
         let front = lock::front_waiter(SLOTS, n.ends, registrations);
@@ -67,28 +82,86 @@ pub fn serve_step(
         }
     }
     receive_to(rows, own, task, w, n.picks, LEAVING);
+    note_giver(device, task, w);
     one_taken(n)
 }
 
+// Hands over, by the lock's answer: the task that the worker let in finds in its cell has its giver then.
+fn hand_on(
+    n: Counts,
+    wait: &mut [u64],
+    registrations: &[u64],
+    tickets: &[u64],
+    cells: &[u64],
+    device: &mut [u64],
+    w: u64,
+) -> Counts
+    requires { ⌜ ((m : Memory) × (own : List ℕ)
+        × Able (withHanded m n (now wait) (now registrations) (now tickets) (now cells) (now device)) own w) ⌝ }
+    ensures numbers { λ r. ⌜ r ≡ withEnds n (r .ends) ⌝ }
+    ensures lock { λ r. ⌜ lockIn (r .ends) (now (wait .exit)) (now (registrations .entry)) (now (tickets .entry)) (now (cells .entry))
+        ≡ handOver SLOTS
+        (lockIn (n .ends) (now (wait .entry)) (now (registrations .entry)) (now (tickets .entry)) (now (cells .entry))) ⌝ }
+    ensures giver { λ _. ⌜ now (device .exit) ≡ handedOn (now (device .entry))
+        (handedIn (lockIn (n .ends) (now (wait .entry)) (now (registrations .entry)) (now (tickets .entry)) (now (cells .entry))) w) ⌝ }
+{
+    let told = lock::hand_over(SLOTS, n.ends, wait, registrations, Worker(w));
+    let by = told.by;
+    let let_in = told.let_in;
+    let next = with_ends(n, told.ends);
+    if let Front::Waiter(taker) = let_in {
+        let looked = lock::look(SLOTS, wait, tickets, cells, n.ends.tail, taker);
+        if let Looked::Receives(task) = looked {
+            note_giver(device, task, by.0);
+            return next;
+        }
+    }
+    next
+}
+
 // Hands over to the waiter that it has served, and stays.
-pub fn hand_step(n: Counts, wait: &mut [u64], own: &mut [u64], w: u64) -> Counts
-    requires { ⌜ ((m : Memory) × Able (withWait m n (now wait)) (now own) w) × (getD (now own) placeAt 0 ≡ HANDING) ⌝ }
-    ensures { λ r. ⌜ ((m : Memory) → Acts (withWait m n (now (wait .entry))) (now (own .entry))
-        (withWait m r (now (wait .exit))) (now (own .exit)) w) ⌝ }
+pub fn hand_step(
+    n: Counts,
+    wait: &mut [u64],
+    registrations: &[u64],
+    tickets: &[u64],
+    cells: &[u64],
+    device: &mut [u64],
+    own: &mut [u64],
+    w: u64,
+) -> Counts
+    requires { ⌜ ((m : Memory) × Able (withHanded m n (now wait) (now registrations) (now tickets) (now cells) (now device)) (now own) w)
+        × (getD (now own) placeAt 0 ≡ HANDING) ⌝ }
+    ensures { λ r. ⌜ ((m : Memory) → Acts
+        (withHanded m n (now (wait .entry)) (now (registrations .entry)) (now (tickets .entry)) (now (cells .entry)) (now (device .entry)))
+        (now (own .entry))
+        (withHanded m r (now (wait .exit)) (now (registrations .entry)) (now (tickets .entry)) (now (cells .entry)) (now (device .exit)))
+        (now (own .exit)) w) ⌝ }
 {
     let served = own[NUMBER];
     go_to(own, SERVING, served + 1);
-    let ends = lock::hand_over(SLOTS, n.ends, wait);
-    with_ends(n, ends)
+    hand_on(n, wait, registrations, tickets, cells, device, w)
 }
 
 // Hands over and leaves, with what it has in hand.
-pub fn leave_step(n: Counts, wait: &mut [u64], own: &mut [u64], w: u64) -> Counts
-    requires { ⌜ ((m : Memory) × Able (withWait m n (now wait)) (now own) w) × (getD (now own) placeAt 0 ≡ LEAVING) ⌝ }
-    ensures { λ r. ⌜ ((m : Memory) → Acts (withWait m n (now (wait .entry))) (now (own .entry))
-        (withWait m r (now (wait .exit))) (now (own .exit)) w) ⌝ }
+pub fn leave_step(
+    n: Counts,
+    wait: &mut [u64],
+    registrations: &[u64],
+    tickets: &[u64],
+    cells: &[u64],
+    device: &mut [u64],
+    own: &mut [u64],
+    w: u64,
+) -> Counts
+    requires { ⌜ ((m : Memory) × Able (withHanded m n (now wait) (now registrations) (now tickets) (now cells) (now device)) (now own) w)
+        × (getD (now own) placeAt 0 ≡ LEAVING) ⌝ }
+    ensures { λ r. ⌜ ((m : Memory) → Acts
+        (withHanded m n (now (wait .entry)) (now (registrations .entry)) (now (tickets .entry)) (now (cells .entry)) (now (device .entry)))
+        (now (own .entry))
+        (withHanded m r (now (wait .exit)) (now (registrations .entry)) (now (tickets .entry)) (now (cells .entry)) (now (device .exit)))
+        (now (own .exit)) w) ⌝ }
 {
     go_to(own, IDLE, 0);
-    let ends = lock::hand_over(SLOTS, n.ends, wait);
-    with_ends(n, ends)
+    hand_on(n, wait, registrations, tickets, cells, device, w)
 }

@@ -10,6 +10,12 @@ use Rattle.tasks.specs.History.{Duty}
 use Rattle.tasks.specs.Duties.{duty, creating}
 use Rattle.machine.specs.State.{Setup, Purpose, Place, idle, trying, registering, looking, draining, serving, handing, leaving, State}
 
+-- a task that a hand-over gives to its taker: by whom and to whom
+pub record Handed : Type 0 where
+  pub by : ℕ
+  pub to : ℕ
+  pub task : ℕ
+
 pub data Event : Type 0 where
   -- it does what it has to do with the tasks, whatever the device: it creates, delivers, gives a notice, works or ends
   minds : Duty → Event
@@ -31,9 +37,9 @@ pub data Event : Type 0 where
   -- it takes the first ready task for itself, or none; the others
   takes : (task : ℕ) → List ℕ → Event
   takesNone : Event
-  -- it hands over, and stays or leaves
-  handsOver : (served : ℕ) → Event
-  leaves : Event
+  -- it hands over, and stays or leaves; the task that this gives to its taker, if any
+  handsOver : (served : ℕ) → Option Handed → Event
+  leaves : Option Handed → Event
 
 -- how many an owner serves in one session at the most
 abbrev pub mostServed : Setup → ℕ
@@ -44,7 +50,21 @@ abbrev pub creatingFirst : Option Duty → Event
 creatingFirst none = takesTicket
 creatingFirst (some d) = minds d
 
+-- what the worker that is let in sees when it looks, the session being another's
+abbrev pub found : ℕ → ℕ → L.Look → Option Handed
+found by to L.notYet = none
+found by to (L.receives i) = some (record { by = by; to = to; task = i })
+found by to L.owns = none
+
+-- by the lock's answer to a hand-over: the task that the worker let in finds in its cell
+unfoldable pub handed : ℕ → L.Lock → L.Told → Option Handed
+handed N l told = elim (told .letIn) [ none ↦ none | some v ↦ found (told .by) v (L.look N (L.handOver N l) (l .tail) v) ]
+
 module _ (c : Setup) (s : State) where
+  -- what worker w's hand-over gives
+  abbrev pub handedBy : ℕ → Option Handed
+  handedBy w = handed (c .slots) (s .lock) (L.tells (c .slots) (s .lock) w)
+
   -- notice, work and mailbox before adding, adding before creating or taking a ticket; worker 0 creates the tasks
   unfoldable pub idling : ℕ → Option Duty → List ℕ → Event
   idling w (some d) is = minds d
@@ -69,8 +89,8 @@ module _ (c : Setup) (s : State) where
   standingAt w (looking t) = seeing t (L.look (c .slots) (s .lock) t w)
   standingAt w (draining p k) = drains p k
   standingAt w (serving n) = servingOrTaking n (s .readyList) (L.front (c .slots) (s .lock))
-  standingAt w (handing n) = handsOver n
-  standingAt w leaving = leaves
+  standingAt w (handing n) = handsOver n (handedBy w)
+  standingAt w leaving = leaves (handedBy w)
 
   abbrev pub event : ℕ → Event
   event w = standingAt w (s .place w)

@@ -11,7 +11,7 @@ use Rattle.lock.specs.Lock as L
 use Rattle.tasks.specs.History.{Duty}
 use Rattle.tasks.specs.Duties.{duty, creating}
 use Rattle.machine.specs.State.{Setup, Purpose, idle, trying, registering, looking, draining, serving, handing, leaving, State}
-use Rattle.machine.specs.Event.{minds, pushes, findsFull, triesAndOwns, triesInVain, takesTicket, registers, waits, receives, owns, drains, fills, takes, takesNone, handsOver, leaves, mostServed, idling, servingOrTaking, standingAt, event}
+use Rattle.machine.specs.Event.{minds, pushes, findsFull, triesAndOwns, triesInVain, takesTicket, registers, waits, receives, owns, drains, fills, takes, takesNone, handsOver, leaves, mostServed, handedBy, idling, servingOrTaking, standingAt, event}
 
 module _ (c : Setup) (s : State) (w : ℕ) where
   -- an idle worker that has a duty does it
@@ -93,10 +93,10 @@ module _ (c : Setup) (s : State) (w : ℕ) where
   unfolding standingAt servingOrTaking
   event-take-none p q = rw (p, standingAt, q)
 
-  pub event-hand-over : {n : ℕ} → s .place w ≡ handing n → event c s w ≡ handsOver n
+  pub event-hand-over : {n : ℕ} → s .place w ≡ handing n → event c s w ≡ handsOver n (handedBy c s w)
   unfolding standingAt
   event-hand-over p = rw p
 
-  pub event-leave : s .place w ≡ leaving → event c s w ≡ leaves
+  pub event-leave : s .place w ≡ leaving → event c s w ≡ leaves (handedBy c s w)
   unfolding standingAt
   event-leave p = rw p

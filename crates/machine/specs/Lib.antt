@@ -11,4 +11,5 @@ pub mod Safety
 pub mod Progress
 pub mod Played
 pub mod WholeRuns
+pub mod Givers
 pub mod Ranges

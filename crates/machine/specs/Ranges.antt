@@ -13,11 +13,12 @@ use Rattle.tasks.specs.History.{Duty}
 use Rattle.tasks.specs.Playing as P
 use Rattle.tasks.specs.Promise as Tasks
 use Rattle.machine.specs.State.{Setup, Place, idle, trying, registering, looking, draining, serving, handing, leaving, State, start, picked}
-use Rattle.machine.specs.Event.{idling, servingOrTaking, standingAt, event}
+use Rattle.machine.specs.Event.{Handed, handedBy, idling, servingOrTaking, standingAt, event}
 use Rattle.machine.specs.Step.{taskOp, apply, step}
 use Rattle.machine.specs.View.{does}
 use Rattle.machine.specs.Whereabouts.{lockStand}
 use Rattle.machine.specs.Safety.Device.{Tasked, drains-below}
+use Rattle.machine.specs.Safety.Handed.{handed-below}
 use Rattle.machine.specs.Safety.Bounds.{Roomy, roomy-start, roomy-step, mails-step, ready-length, ready-below}
 use Rattle.machine.specs.Safety.Invariant.{Playable, Inv, may-do, inv-start, inv-step, inv-picked}
 pub use Rattle.machine.specs.Safety.Bounds.{Small, small-start, small-step}
@@ -58,9 +59,10 @@ pub record Fit (c : Setup) (s : State) (w : ℕ) : Type 0 where
   pub head : s .lock .head < 2 ^ 43
   pub tail : s .lock .tail ≤ 2 ^ 43
   pub place : Within c (s .place w)
-  -- the first ready task, and the front waiter that an owner finds
+  -- the first ready task, the front waiter, and the task that it finds in its cell when it is let in
   pub ready : (i : ℕ) (is : List ℕ) → s .readyList ≡ i ∷ is → i < length (c .tasks)
-  pub front : (n v : ℕ) → s .place w ≡ serving n → L.front (c .slots) (s .lock) ≡ some v → v < c .workers
+  pub front : (v : ℕ) → L.front (c .slots) (s .lock) ≡ some v → v < c .workers
+  pub handed : (h : Handed) → handedBy c s w ≡ some h → h .task < length (c .tasks)
   -- queues within their capacity, and room for what the step adds to the ready list
   pub queues : (v : ℕ) → length (s .queue v) ≤ c .capacity
   pub room-ready : length ((acted c s w) .readyList) ≤ 128
@@ -155,7 +157,8 @@ module _ (c : Setup) (playable : Playable c) (sized : Sized c) where
           tail = omega (arith, head-within, Lock.ends (g .inv .locked));
           place = place-within (s .place w) refl;
           ready = ready-below c playable s (g .inv);
-          front = λ n v p f. ((Lock.front-iff (g .inv .locked) v) .0 f) .0;
+          front = λ v f. ((Lock.front-iff (g .inv .locked) v) .0 f) .0;
+          handed = handed-below c s (g .inv .locked) (g .inv .tasked) (g .inv .device) w;
           queues = g .bounds;
           room-ready = subst (λ (u : State). length (u .readyList) ≤ 128) (sym (acted-step c s w))
               (omega (arith, ready-length c playable (step c s w) (inv-step c playable s w l (g .inv)), sized .tasks));

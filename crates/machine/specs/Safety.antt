@@ -4,9 +4,11 @@ pub mod Owners
 pub mod Ends
 pub mod Device
 pub mod Tasked
+pub mod Handed
 pub mod Traces
 pub mod Invariant
 pub mod Histories
+pub mod Giving
 pub mod Turns
 pub mod Bounds
 pub mod Flags

@@ -2,6 +2,7 @@
 -- The device is what hands the ready tasks to the workers: here the lock, with queues, ready list and cells.
 use Prim.Native.Nat.{ℕ, suc}
 use mathlib.Core.List.{List, []}
+use mathlib.Core.Option.{Option, none}
 use Rattle.lock.specs.Lock as L
 use Rattle.plan.specs.Plan.{Task}
 use Rattle.tasks.specs.Tasks as T
@@ -46,6 +47,8 @@ pub record State : Type 0 where
   pub place : ℕ → Place
   pub queue : ℕ → List ℕ
   pub readyList : List ℕ
+  -- by task: who gave it to its taker, the owner whose hand-over let the taker in, or the taker itself
+  pub giver : ℕ → Option ℕ
   -- picks taken
   pub picks : ℕ
 
@@ -59,6 +62,7 @@ start c =
       place = λ _. idle;
       queue = λ _. [];
       readyList = [];
+      giver = λ _. none;
       picks = 0;
     }
 
@@ -71,5 +75,6 @@ picked s =
       place = s .place;
       queue = s .queue;
       readyList = s .readyList;
+      giver = s .giver;
       picks = suc (s .picks);
     }

@@ -12,7 +12,7 @@ use Rattle.lock.specs.History as LH
 use Rattle.tasks.specs.History as TH
 use Rattle.tasks.specs.Playing as P
 use Rattle.machine.specs.State.{Setup, Purpose, forServing, forAdding, Place, idle, trying, registering, looking, draining, serving, handing, leaving, State, start, picked}
-use Rattle.machine.specs.Event.{Event, minds, pushes, findsFull, triesAndOwns, triesInVain, takesTicket, registers, waits, receives, owns, drains, fills, takes, takesNone, handsOver, leaves, event}
+use Rattle.machine.specs.Event.{Handed, Event, minds, pushes, findsFull, triesAndOwns, triesInVain, takesTicket, registers, waits, receives, owns, drains, fills, takes, takesNone, handsOver, leaves, event}
 
 -- what an event is to the lock: one operation at the most
 abbrev pub lockOp : Event → Option LH.Op
@@ -30,8 +30,8 @@ lockOp (drains p k) = none
 lockOp (fills n v i is) = some (LH.fill v i)
 lockOp (takes i is) = none
 lockOp takesNone = none
-lockOp (handsOver n) = some LH.pass
-lockOp leaves = some LH.leave
+lockOp (handsOver n o) = some LH.pass
+lockOp (leaves o) = some LH.leave
 
 -- what it is to the tasks: one operation at the most
 abbrev pub taskOp : Event → Option TH.Op
@@ -49,14 +49,15 @@ taskOp (drains p k) = none
 taskOp (fills n v i is) = some (TH.holds i)
 taskOp (takes i is) = some (TH.takes i)
 taskOp takesNone = none
-taskOp (handsOver n) = none
-taskOp leaves = none
+taskOp (handsOver n o) = none
+taskOp (leaves o) = none
 
--- what it is to the device: where the worker goes, and what the queues and the ready list become
+-- what it is to the device: where the worker goes, and what the queues, the ready list and the givers become
 pub record Effect : Type 0 where
   pub place : Place
   pub queue : ℕ → List ℕ
   pub readyList : List ℕ
+  pub giver : ℕ → Option ℕ
 
 module _ (c : Setup) where
   -- after queue k the next; after the last, by the purpose
@@ -69,12 +70,21 @@ module _ (c : Setup) where
 
   module _ (s : State) where
     abbrev goes : Place → Effect
-    goes p = record { place = p; queue = s .queue; readyList = s .readyList }
+    goes p = record { place = p; queue = s .queue; readyList = s .readyList; giver = s .giver }
+
+    -- a task that is handed over has a giver: whose session it was
+    abbrev pub giverAfter : Option Handed → ℕ → Option ℕ
+    giverAfter none = s .giver
+    giverAfter (some h) = upd (s .giver) (h .task) (some (h .by))
+
+    abbrev goesHanding : Place → Option Handed → Effect
+    goesHanding p o = record { place = p; queue = s .queue; readyList = s .readyList; giver = giverAfter o }
 
     -- worker w's event
     abbrev pub effect : ℕ → Event → Effect
     effect w (minds d) = goes idle
-    effect w (pushes i is) = record { place = idle; queue = upd (s .queue) w (s .queue w ++ i ∷ []); readyList = s .readyList }
+    effect w (pushes i is) =
+        record { place = idle; queue = upd (s .queue) w (s .queue w ++ i ∷ []); readyList = s .readyList; giver = s .giver }
     effect w findsFull = goes trying
     effect w triesAndOwns = goes (draining forAdding 0)
     effect w triesInVain = goes idle
@@ -83,12 +93,13 @@ module _ (c : Setup) where
     effect w waits = goes (s .place w)
     effect w (receives t i) = goes idle
     effect w (owns t) = goes (draining forServing 0)
-    effect w (drains p k) = record { place = nextDrain p k; queue = upd (s .queue) k []; readyList = s .readyList ++ s .queue k }
-    effect w (fills n v i is) = record { place = handing n; queue = s .queue; readyList = is }
-    effect w (takes i is) = record { place = leaving; queue = s .queue; readyList = is }
+    effect w (drains p k) =
+        record { place = nextDrain p k; queue = upd (s .queue) k []; readyList = s .readyList ++ s .queue k; giver = s .giver }
+    effect w (fills n v i is) = record { place = handing n; queue = s .queue; readyList = is; giver = s .giver }
+    effect w (takes i is) = record { place = leaving; queue = s .queue; readyList = is; giver = upd (s .giver) i (some w) }
     effect w takesNone = goes leaving
-    effect w (handsOver n) = goes (serving (suc n))
-    effect w leaves = goes idle
+    effect w (handsOver n o) = goesHanding (serving (suc n)) o
+    effect w (leaves o) = goesHanding idle o
 
   abbrev pub lockAfter : L.Lock → ℕ → Option LH.Op → L.Lock
   lockAfter l w none = l
@@ -104,6 +115,7 @@ module _ (c : Setup) where
         place = upd (s .place) w (effect s w e .place);
         queue = effect s w e .queue;
         readyList = effect s w e .readyList;
+        giver = effect s w e .giver;
         picks = s .picks;
       }
 

@@ -4,10 +4,12 @@ use mathlib.Core.List.{List}
 use mathlib.Core.Option.{Option, none, some}
 use Rattle.runs.specs.Traces as Traces
 use Rattle.lock.specs.History as LH
+use Rattle.runs.specs.Counts.{is}
 use Rattle.tasks.specs.Flags.{Flags}
+use Rattle.tasks.specs.History as TH
 use Rattle.tasks.specs.Playing as P
 use Rattle.machine.specs.State.{Setup, State}
-use Rattle.machine.specs.Event.{Event, event}
+use Rattle.machine.specs.Event.{Handed, Event, minds, pushes, findsFull, triesAndOwns, triesInVain, takesTicket, registers, waits, receives, owns, drains, fills, takes, takesNone, handsOver, leaves, event}
 use Rattle.machine.specs.Step.{lockOp, taskOp, step, finished}
 
 abbrev pub Happening : Type 0
@@ -41,3 +43,41 @@ byLock f (some op) = f op
 
 abbrev pub isHandOver : Event → ℕ
 isHandOver e = byLock LH.handsOver (lockOp e)
+
+-- 1 for a receipt of task i that is a taking from the ready list
+abbrev takingOf : ℕ → TH.Op → ℕ
+takingOf i (TH.minds d) = 0
+takingOf i (TH.gives j js) = 0
+takingOf i (TH.holds j) = 0
+takingOf i (TH.takes j) = is j i
+takingOf i (TH.receives j) = 0
+
+abbrev pub isTaking : ℕ → Event → ℕ
+isTaking i e = P.by (takingOf i) (taskOp e)
+
+-- the task that an event hands over to its taker, if any
+abbrev pub hands : Event → Option Handed
+hands (minds d) = none
+hands (pushes i is) = none
+hands findsFull = none
+hands triesAndOwns = none
+hands triesInVain = none
+hands takesTicket = none
+hands (registers t) = none
+hands waits = none
+hands (receives t i) = none
+hands (owns t) = none
+hands (drains p k) = none
+hands (fills n v i is) = none
+hands (takes i is) = none
+hands takesNone = none
+hands (handsOver n o) = o
+hands (leaves o) = o
+
+-- 1 for a hand-over of task i to its taker
+abbrev handingOf : ℕ → Option Handed → ℕ
+handingOf i none = 0
+handingOf i (some h) = is (h .task) i
+
+abbrev pub isHanding : ℕ → Event → ℕ
+isHanding i e = handingOf i (hands e)

@@ -13,7 +13,7 @@ use Rattle.tasks.specs.Tasks as T
 use Rattle.tasks.specs.History.{Duty, CanMind}
 use Rattle.tasks.specs.Duties.{duty, creating, Duties, at-rest, has-duty, Creates, created, creates, duties, creating-goes}
 use Rattle.machine.specs.State.{Setup, Purpose, Place, idle, trying, registering, looking, draining, serving, handing, leaving, State, picked}
-use Rattle.machine.specs.Event.{Event, minds, pushes, findsFull, triesAndOwns, triesInVain, takesTicket, registers, waits, receives, owns, drains, fills, takes, takesNone, handsOver, leaves, mostServed, creatingFirst, idling, servingOrTaking, seeing, standingAt, event}
+use Rattle.machine.specs.Event.{Event, minds, pushes, findsFull, triesAndOwns, triesInVain, takesTicket, registers, waits, receives, owns, drains, fills, takes, takesNone, handsOver, leaves, mostServed, handedBy, creatingFirst, idling, servingOrTaking, seeing, standingAt, event}
 
 -- idle, with nothing in hand and an empty mailbox
 pub record AtRest (s : State) (w : ℕ) : Type 0 where
@@ -41,8 +41,8 @@ pub data Does (c : Setup) (s : State) (w : ℕ) : Event → Type 0 where
       → n < mostServed c → Does c s w (fills n v i is)
   does-take : (n i : ℕ) (is : List ℕ) → s .place w ≡ serving n → s .readyList ≡ i ∷ is → Does c s w (takes i is)
   does-take-none : (n : ℕ) → s .place w ≡ serving n → s .readyList ≡ [] → Does c s w takesNone
-  does-hand-over : (n : ℕ) → s .place w ≡ handing n → Does c s w (handsOver n)
-  does-leave : s .place w ≡ leaving → Does c s w leaves
+  does-hand-over : (n : ℕ) → s .place w ≡ handing n → Does c s w (handsOver n (handedBy c s w))
+  does-leave : s .place w ≡ leaving → Does c s w (leaves (handedBy c s w))
 
 module _ (c : Setup) (s : State) (w : ℕ) where
   does-creating : AtRest s w → s .tasks .adds w ≡ [] → (o : Option Duty) → Creates (c .workers) (c .tasks) (s .tasks) (s .stand w) w o

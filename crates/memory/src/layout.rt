@@ -3,7 +3,7 @@
 // What there is room for.
 pub const MOST_WORKERS: usize = 32;
 
-const MOST_TASKS: usize = 128;
+pub const MOST_TASKS: usize = 128;
 
 const MOST_TASK_ACCESSES: usize = 4;
 

@@ -25,7 +25,7 @@ pub record Kept (m₀ : Memory) (store₀ : List ℕ) (m : Memory) (store : List
   pub registrations : length (m .registrations) ≡ length (m₀ .registrations)
   pub tickets : length (m .tickets) ≡ length (m₀ .tickets)
   pub cells : length (m .cells) ≡ length (m₀ .cells)
-  pub ready : length (m .ready) ≡ length (m₀ .ready)
+  pub device : length (m .device) ≡ length (m₀ .device)
   pub rows : length (m .rows) ≡ length (m₀ .rows)
   pub accesses : length (m .accesses) ≡ length (m₀ .accesses)
   pub size : length store ≡ length store₀
@@ -38,7 +38,7 @@ kept-start =
       registrations = refl;
       tickets = refl;
       cells = refl;
-      ready = refl;
+      device = refl;
       rows = refl;
       accesses = refl;
       size = refl;
@@ -52,7 +52,7 @@ kept-more k l =
       registrations = l .registrations ∙ k .registrations;
       tickets = l .tickets ∙ k .tickets;
       cells = l .cells ∙ k .cells;
-      ready = l .ready ∙ k .ready;
+      device = l .device ∙ k .device;
       rows = l .rows ∙ k .rows;
       accesses = l .accesses ∙ k .accesses;
       size = l .size ∙ k .size;
@@ -66,7 +66,7 @@ kept-long k l =
       registrations = k .registrations ∙ l .registrations;
       tickets = k .tickets ∙ l .tickets;
       cells = k .cells ∙ l .cells;
-      ready = k .ready ∙ l .ready;
+      device = k .device ∙ l .device;
       tasks = record { rows = k .rows ∙ l .tasks .rows; accesses = k .accesses ∙ l .tasks .accesses };
     }
 

@@ -20,6 +20,7 @@ use Rattle.machine.specs.Safety as Safety
 use Rattle.machine.specs.Safety.Invariant.{Playable}
 use Rattle.machine.specs.Figures.{finishingFigure}
 use Rattle.machine.specs.WholeRuns.{WholeRun, whole-runs}
+use Rattle.machine.specs.Givers.{Givers, givers}
 use Rattle.orders.specs.Reached.{setupOf, reached}
 use Rattle.orders.specs.Picked.{picks-below}
 use Rattle.orders.specs.Sizes.{picks-few}
@@ -47,6 +48,13 @@ module _ (text : List ℕ) (p : Plan) (e : reading text ≡ accepted p) where
 
   pub own-run : (limit : ℕ) → WholeRun (setupOf p) (picksUpTo limit p)
   own-run limit = accepted-runs (picksUpTo limit p) (own-picks limit)
+
+  -- who gave each task, likewise
+  pub accepted-givers : (ws : List ℕ) → Picks (p .workers) ws → (i : ℕ) → Givers (setupOf p) ws i
+  accepted-givers ws h = givers (setupOf p) playable ws h
+
+  pub own-givers : (limit i : ℕ) → Givers (setupOf p) (picksUpTo limit p) i
+  own-givers limit = accepted-givers (picksUpTo limit p) (own-picks limit)
 
   -- at most four accesses in a task, also past the last
   pub few-accesses : (i : ℕ) → length (taskAt (p .tasks) i .accesses) ≤ 4

@@ -23,18 +23,18 @@ fn play_line(
     registrations: &mut [u64],
     tickets: &mut [u64],
     cells: &mut [u64],
-    ready: &mut [u64],
+    device: &mut [u64],
     rows: &mut [u64],
     accesses: &mut [u64],
     store: &mut [u64],
 ) -> Counts
     requires { ⌜ LineAble end source
-        (memory begin (now wait) (now registrations) (now tickets) (now cells) (now ready) (now rows) (now accesses)) (now store) ⌝ }
+        (memory begin (now wait) (now registrations) (now tickets) (now cells) (now device) (now rows) (now accesses)) (now store) ⌝ }
     ensures held { λ r. ⌜ LinePlayed end source
         (memory begin (now (wait .entry)) (now (registrations .entry)) (now (tickets .entry)) (now (cells .entry))
-        (now (ready .entry)) (now (rows .entry)) (now (accesses .entry))) (now (store .entry))
+        (now (device .entry)) (now (rows .entry)) (now (accesses .entry))) (now (store .entry))
         (memory r (now (wait .exit)) (now (registrations .exit)) (now (tickets .exit)) (now (cells .exit))
-        (now (ready .exit)) (now (rows .exit)) (now (accesses .exit))) (now (store .exit)) ⌝ }
+        (now (device .exit)) (now (rows .exit)) (now (accesses .exit))) (now (store .exit)) ⌝ }
     ensures later { λ _. ⌜ drop sharesSize (now (store .exit)) ≡ drop sharesSize (now (store .entry)) ⌝ }
 {
     let mut n = begin;
@@ -51,7 +51,7 @@ fn play_line(
             registrations,
             tickets,
             cells,
-            ready,
+            device,
             rows,
             accesses,
             store,
@@ -82,18 +82,18 @@ pub fn play_orders(
     registrations: &mut [u64],
     tickets: &mut [u64],
     cells: &mut [u64],
-    ready: &mut [u64],
+    device: &mut [u64],
     rows: &mut [u64],
     accesses: &mut [u64],
     store: &mut [u64],
 ) -> Counts
     requires { ⌜ OrdersAble (now lines) orders
-        (memory begin (now wait) (now registrations) (now tickets) (now cells) (now ready) (now rows) (now accesses)) (now store) ⌝ }
+        (memory begin (now wait) (now registrations) (now tickets) (now cells) (now device) (now rows) (now accesses)) (now store) ⌝ }
     ensures held { λ r. ⌜ OrdersPlayed (now (lines .entry)) orders limit
         (memory begin (now (wait .entry)) (now (registrations .entry)) (now (tickets .entry)) (now (cells .entry))
-        (now (ready .entry)) (now (rows .entry)) (now (accesses .entry))) (now (store .entry))
+        (now (device .entry)) (now (rows .entry)) (now (accesses .entry))) (now (store .entry))
         (memory r (now (wait .exit)) (now (registrations .exit)) (now (tickets .exit)) (now (cells .exit))
-        (now (ready .exit)) (now (rows .exit)) (now (accesses .exit))) (now (store .exit)) ⌝ }
+        (now (device .exit)) (now (rows .exit)) (now (accesses .exit))) (now (store .exit)) ⌝ }
     ensures later { λ _. ⌜ drop sharesSize (now (store .exit)) ≡ drop sharesSize (now (store .entry)) ⌝ }
 {
     let mut n = begin;
@@ -110,7 +110,7 @@ pub fn play_orders(
             registrations,
             tickets,
             cells,
-            ready,
+            device,
             rows,
             accesses,
             store,

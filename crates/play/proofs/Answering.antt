@@ -1,9 +1,10 @@
 -- What the arrays say of a state, and the answer that they lead to.
-use Prim.Native.Nat.{ℕ, _≤_, _<_}
+use Prim.Native.Nat.{ℕ, _-_, _≤_, _<_}
 use native.Mathlib.Omega.{arith}
 use mathlib.Core.Path.{_≡_, sym, ap, _∙_}
 use mathlib.Core.List.{List, _++_}
-use lib.ListN.{length, drop}
+use lib.ListN.{length, getD, take, drop, length-drop}
+use lib.Seq.{getD-drop, take-length}
 use Rattle.refusals.specs.declared.Refusal.the-variants.{OutputTooShort}
 use Rattle.machine.specs.State.{Setup, State}
 use Rattle.machine.specs.Step.{finished}
@@ -13,13 +14,25 @@ use Rattle.memory.specs.Layout as layout
 use Rattle.memory.specs.Codes.{optionCode}
 use Rattle.memory.specs.Labels.{Labels}
 use Rattle.steps.specs.declared.Counts.{Counts}
-use Rattle.steps.specs.Memory.{share, Memory, withCounts, withTasks, Holds}
+use Rattle.steps.specs.Layout.{GIVERS}
+use Rattle.steps.specs.Memory.{share, Memory, withCounts, Holds}
 use Rattle.report.specs.declared.Summary.{Summary}
 use Rattle.report.specs.Report.{report}
 use Rattle.report.specs.Shown.{Shown}
 use Rattle.play.specs.declared.Answer.the-variants.{Reports, Refuses}
+use Rattle.play.specs.Lent.{withShown}
 use Rattle.play.specs.Outcome.{written}
 use Rattle.play.specs.Written.{written-short, written-whole}
+
+-- the part of the device's array that has the givers
+abbrev pub giversIn : List ℕ → List ℕ
+giversIn device = take (length device - GIVERS) (drop GIVERS device)
+
+givers-all : (device : List ℕ) → giversIn device ≡ drop GIVERS device
+givers-all device = ap (λ n. take n (drop GIVERS device)) (sym (length-drop GIVERS device)) ∙ take-length (drop GIVERS device)
+
+pub givers-long : (device : List ℕ) → length (giversIn device) ≡ length device - GIVERS
+givers-long device = ap length (givers-all device) ∙ length-drop GIVERS device
 
 -- what a summary says by the numbers of a run and by the store
 abbrev pub Summed : Counts → List ℕ → Summary → Type 0
@@ -29,14 +42,14 @@ Summed n store r =
     → (r .finished ≡ finished c s) × (r .owner ≡ optionCode (owner c s)))
 
 module _ (n : Counts) (store : List ℕ) (r : Summary) (summed : Summed n store r) where
-  module _ (m : Memory) (c : Setup) (s : State) (rows text places : List ℕ) (labels : Labels (c .tasks) text places)
-      (holds : Holds c (withTasks m n rows (m .accesses)) (share store) s) where
+  module _ (m : Memory) (c : Setup) (s : State) (device rows text places : List ℕ) (labels : Labels (c .tasks) text places)
+      (holds : Holds c (withShown m n device rows) (share store) s) where
     tasks-counted : r .tasks ≡ length (c .tasks)
     tasks-counted = summed .0 .3 ∙ holds .tasks .tasks
 
-    pub shown : Shown c s r rows places text
+    pub shown : Shown c s r rows places (giversIn device) text
     shown =
-        let (f, o) = summed .1 (withTasks m n rows (m .accesses)) c s holds in
+        let (f, o) = summed .1 (withShown m n device rows) c s holds in
         record {
           finished = f;
           picks = summed .0 .0 ∙ holds .picks;
@@ -45,6 +58,8 @@ module _ (n : Counts) (store : List ℕ) (r : Summary) (summed : Summed n store 
           owner = o;
           count = tasks-counted;
           rows = holds .tasks .task-rows;
+          givers = λ i l.
+              ap (λ (xs : List ℕ). getD xs i 0) (givers-all device) ∙ getD-drop GIVERS device i 0 ∙ holds .device .givers i l;
           labels = labels;
         }
 

@@ -1,3 +1,4 @@
 pub mod Outcome
 pub mod Loaded
 pub mod Written
+pub mod Lent

@@ -13,12 +13,13 @@ ghost use Rattle.machine.specs.Ranges.{Sized};
 ghost use Rattle.memory.specs.Layout as layout;
 ghost use Rattle.memory.specs.Codes.{optionCode};
 ghost use Rattle.memory.specs.Labels.{Labels};
-ghost use Rattle.steps.specs.Layout.{mostWorkers, sharesSize, SLOTS, READY};
-ghost use Rattle.steps.specs.Memory.{share, Memory, withCounts, withTasks, Holds};
+ghost use Rattle.steps.specs.Layout.{mostWorkers, sharesSize, SLOTS, GIVERS, deviceSize};
+ghost use Rattle.steps.specs.Memory.{share, Memory, withCounts, Holds};
 ghost use Rattle.scheduler.specs.Lent.{memory};
 ghost use Rattle.report.specs.Report.{report};
 ghost use Rattle.orders.specs.Reached.{setupOf, reached};
 ghost use Rattle.play.specs.Outcome.{reportOf, written};
+ghost use Rattle.play.specs.Lent.{withShown};
 ghost use Rattle.play.specs.Loaded.{Loaded, LoadedTasks};
 use memory::layout;
 use orders::play_orders;
@@ -30,7 +31,8 @@ use scheduler::fresh;
 use scheduler::is_finished;
 use scheduler::owner::find_owner;
 use steps::Counts;
-use steps::layout::READY;
+use steps::layout::DEVICE;
+use steps::layout::GIVERS;
 use steps::layout::SLOTS;
 use tables::lay_out;
 
@@ -64,27 +66,30 @@ fn summary_of(n: Counts, store: &[u64]) -> Summary
 fn answer_of(
     text: &[u8],
     n: Counts,
+    device: &[u64],
     rows: &[u64],
     labels: &[u64],
     store: &[u64],
     output: &mut [u8],
 ) -> Answer
-    requires { ⌜ (sharesSize ≤ length (now store)) × (length (now rows) ≡ layout.taskRows) × (length (now labels) ≡ layout.labelRows) ⌝ }
+    requires { ⌜ (sharesSize ≤ length (now store)) × (length (now device) ≡ deviceSize) × (length (now rows) ≡ layout.taskRows)
+        × (length (now labels) ≡ layout.labelRows) ⌝ }
     requires { ⌜ ((m : Memory) × (c : Setup) × (s : State) × Sized c × Labels (c .tasks) (now text) (now labels)
-        × Holds c (withTasks m n (now rows) (m .accesses)) (share (now store)) s) ⌝ }
+        × Holds c (withShown m n (now device) (now rows)) (share (now store)) s) ⌝ }
     ensures { λ r. ⌜ ((m : Memory) (c : Setup) (s : State) (left : List ℕ) →
         Labels (c .tasks) (now (text .entry)) (now (labels .entry)) →
-        Holds c (withTasks m n (now (rows .entry)) (m .accesses)) (share (now (store .entry))) s →
+        Holds c (withShown m n (now (device .entry)) (now (rows .entry))) (share (now (store .entry))) s →
         (r ≡ (written left (now (output .entry)) (s .picks) (report c s)) .answer)
         × (now (output .exit) ≡ (written left (now (output .entry)) (s .picks) (report c s)) .output)) ⌝ }
 {
     let summary = summary_of(n, store);
+    let givers = &device[GIVERS..];
     // written into no bytes, it is only counted
-    let length = put_report(summary, text, rows, labels, &mut output[..0]);
+    let length = put_report(summary, text, rows, labels, givers, &mut output[..0]);
     if output.len() < length {
         return Answer::Refuses(Refusal::OutputTooShort, 0);
     }
-    put_report(summary, text, rows, labels, output);
+    put_report(summary, text, rows, labels, givers, output);
     let picks = n.picks;
     Answer::Reports { picks, length }
 }
@@ -105,11 +110,12 @@ fn set_up(
     requires { ⌜ (length (now rows) ≡ layout.taskRows) × (length (now accesses) ≡ layout.accessRows)
         × (length (now labels) ≡ layout.labelRows) ⌝ }
     requires { ⌜ ((text : List ℕ) × (p : Plan) × (reading text ≡ accepted p) × LoadedTasks text (now plan) workers count p) ⌝ }
-    ensures { λ r. ⌜ ((text : List ℕ) (p : Plan) (ready store : List ℕ) → reading text ≡ accepted p →
+    ensures { λ r. ⌜ ((text : List ℕ) (p : Plan) (device store : List ℕ) → reading text ≡ accepted p →
         LoadedTasks text (now (plan .entry)) workers count p →
         sharesSize ≤ length store → take sharesSize store ≡ replicate sharesSize 0 →
+        drop GIVERS device ≡ replicate layout.mostTasks 0 →
         Holds (setupOf p)
-        (memory r (now (wait .exit)) (now (registrations .exit)) (now (tickets .exit)) (now (cells .exit)) ready
+        (memory r (now (wait .exit)) (now (registrations .exit)) (now (tickets .exit)) (now (cells .exit)) device
         (now (rows .exit)) (now (accesses .exit)))
         (share store) (start (setupOf p))
         × Labels (p .tasks) text (now (labels .exit))) ⌝ }
@@ -119,7 +125,7 @@ fn set_up(
     fresh(ends, workers, count as u64)
 }
 
-// Runs a plan that was read, in arrays that are lent, from a store whose shares are all 0.
+// Runs a plan that was read, in arrays that are lent, from a store whose shares are all 0 and a device's array without a giver.
 fn run_in(
     text: &[u8],
     plan: &[u64],
@@ -130,7 +136,7 @@ fn run_in(
     registrations: &mut [u64],
     tickets: &mut [u64],
     cells: &mut [u64],
-    ready: &mut [u64],
+    device: &mut [u64],
     rows: &mut [u64],
     accesses: &mut [u64],
     labels: &mut [u64],
@@ -139,8 +145,9 @@ fn run_in(
 ) -> Answer
     requires { ⌜ (sharesSize ≤ length (now store)) × (take sharesSize (now store) ≡ replicate sharesSize 0) ⌝ }
     requires { ⌜ (length (now wait) ≡ SLOTS) × (length (now registrations) ≡ SLOTS) × (length (now tickets) ≡ mostWorkers)
-        × (length (now cells) ≡ mostWorkers) × (length (now ready) ≡ READY) × (length (now rows) ≡ layout.taskRows)
-        × (length (now accesses) ≡ layout.accessRows) × (length (now labels) ≡ layout.labelRows) ⌝ }
+        × (length (now cells) ≡ mostWorkers) × (length (now device) ≡ deviceSize) × (length (now rows) ≡ layout.taskRows)
+        × (length (now accesses) ≡ layout.accessRows) × (length (now labels) ≡ layout.labelRows)
+        × (drop GIVERS (now device) ≡ replicate layout.mostTasks 0) ⌝ }
     requires { ⌜ ((p : Plan) × (reading (now text) ≡ accepted p) × Loaded (now text) (now plan) (now lines) read p) ⌝ }
     ensures answer { λ r. ⌜ ((p : Plan) (left : List ℕ) → reading (now (text .entry)) ≡ accepted p →
         Loaded (now (text .entry)) (now (plan .entry)) (now (lines .entry)) read p →
@@ -169,12 +176,12 @@ fn run_in(
         registrations,
         tickets,
         cells,
-        ready,
+        device,
         rows,
         accesses,
         store,
     );
-    answer_of(text, n, rows, labels, store, output)
+    answer_of(text, n, device, rows, labels, store, output)
 }
 
 // Runs a plan that was read, from a store whose shares are all 0.
@@ -199,7 +206,7 @@ pub fn run_plan(
     let mut registrations = [0u64; SLOTS as usize];
     let mut tickets = [0u64; layout::MOST_WORKERS];
     let mut cells = [0u64; layout::MOST_WORKERS];
-    let mut ready = [0u64; READY as usize];
+    let mut device = [0u64; DEVICE];
     let mut rows = [0u64; layout::TASK_ROWS];
     let mut accesses = [0u64; layout::ACCESS_ROWS];
     let mut labels = [0u64; layout::LABEL_ROWS];
@@ -213,7 +220,7 @@ pub fn run_plan(
         &mut registrations,
         &mut tickets,
         &mut cells,
-        &mut ready,
+        &mut device,
         &mut rows,
         &mut accesses,
         &mut labels,

@@ -6,7 +6,7 @@ use mathlib.Core.Option.{Option}
 use native.Mathlib.Nat.{add-zero}
 use native.Mathlib.Numerals.{add-one}
 use native.Mathlib.Omega.{arith}
-use lib.ListN.{length, take, drop, length-take}
+use lib.ListN.{length, take, drop, getD, length-take}
 use lib.Seq.{take-length}
 use Rattle.text.specs.Writing.{plain, fields, Wrote}
 use Rattle.text.specs.WritingLaws.{wrote-none, wrote-then}
@@ -42,16 +42,16 @@ lines-more c s i (suc k) (t ∷ ts) h =
 -- ---- a task's line
 
 -- what is written of a task's numbers is the line of the task that they show
-pub wrote-task : {c : Setup} {s : State} {table places bs : List ℕ} {i : ℕ} → TaskShown c s table places bs i
-    → {label : List ℕ} {task : Outcome} {out : List ℕ} {at next : ℕ} {after : List ℕ}
-    → label ≡ labelIn bs (labelAt places i) → task ≡ outcomeAt table i
-    → ((x : Status) → statusCode x ≡ task .status
-    → Wrote out at (fields (taskFields i label x (task .runner) (task .receipt) (task .ending))) next after)
+pub wrote-task : {c : Setup} {s : State} {table places given bs : List ℕ} {i : ℕ} → TaskShown c s table places given bs i
+    → {label : List ℕ} {task : Outcome} {giver : ℕ} {out : List ℕ} {at next : ℕ} {after : List ℕ}
+    → label ≡ labelIn bs (labelAt places i) → task ≡ outcomeAt table i → giver ≡ getD given i 0
+    → ((x : Status) (g : Option ℕ) → statusCode x ≡ task .status → optionCode g ≡ giver
+    → Wrote out at (fields (taskFields i label x (task .runner) (task .receipt) (task .ending) g)) next after)
     → Wrote out at (fields (fieldsOf c s i)) next after
-wrote-task {s = s} {i = i} shown e f w =
+wrote-task {s = s} {i = i} shown e f h w =
     let is = f ∙ shown .outcome in
     rw (e ∙ shown .label, ap (λ (t : Outcome). t .runner) is, ap (λ (t : Outcome). t .receipt) is, ap (λ (t : Outcome). t .ending) is)
-    at (w (s .tasks .status i) (sym (ap (λ (t : Outcome). t .status) is)))
+    at (w (s .tasks .status i) (s .giver i) (sym (ap (λ (t : Outcome). t .status) is)) (sym (h ∙ shown .giver)))
 
 pub label-short : (bs : List ℕ) (l : Label) {label : List ℕ} → label ≡ labelIn bs l → l .size ≤ layout.mostLabel
     → length label ≤ layout.mostLabel
@@ -59,13 +59,15 @@ label-short bs l e h = omega (arith, ap length e, length-take (l .size) (drop (l
 
 -- ---- the whole report
 
-module _ {c : Setup} {s : State} {summary : Summary} {table places bs : List ℕ} (shown : Shown c s summary table places bs) where
-  task-shown : (i : ℕ) → i < length (c .tasks) → TaskShown c s table places bs i
+module _ {c : Setup} {s : State} {summary : Summary} {table places given bs : List ℕ}
+    (shown : Shown c s summary table places given bs) where
+  task-shown : (i : ℕ) → i < length (c .tasks) → TaskShown c s table places given bs i
   task-shown i h =
       let t = s .tasks in
       record {
         outcome = outcome-is (c .tasks) table (t .count) (t .status) (t .runner) (t .receipt) (t .ending) (shown .rows) i h;
         label = shown .labels i h .label;
+        giver = shown .givers i h;
       }
 
   -- the lines of the first i tasks, and one more
@@ -76,7 +78,7 @@ module _ {c : Setup} {s : State} {summary : Summary} {table places bs : List ℕ
 
     pub first-more : (i : ℕ) → i < summary .tasks → {next : ℕ} {after : List ℕ}
         → Wrote out at (plain (taskLines c s 0 (take i (c .tasks)))) next after
-        → {end : ℕ} {last : List ℕ} → (TaskShown c s table places bs i → Wrote after next (fields (fieldsOf c s i)) end last)
+        → {end : ℕ} {last : List ℕ} → (TaskShown c s table places given bs i → Wrote after next (fields (fieldsOf c s i)) end last)
         → Wrote out at (plain (taskLines c s 0 (take (i + 1) (c .tasks)))) end last
     first-more i h w v =
         let z : 0 + i ≡ i = omega arith in

@@ -58,15 +58,15 @@ pub known-from : (first x : Status) (n : ℕ) → statusCode x ≡ n → (k : �
 known-from first x n e k = rw (stage-code first, stage-code x, e)
 
 module _ (o : Option ℕ) (n : ℕ) (e : optionCode o ≡ n) where
-  pub owner-none : n ≡ 0 → numberOrNone o ≡ unknown
-  owner-none q = go o (e ∙ q)
+  pub worker-none : n ≡ 0 → numberOrNone o ≡ unknown
+  worker-none q = go o (e ∙ q)
     where
       go : (o : Option ℕ) → optionCode o ≡ 0 → numberOrNone o ≡ unknown
       go none h = refl
       go (some w) h = absurd (omega arith)
 
-  pub owner-some : 1 ≤ n → numberOrNone o ≡ decimal (n - 1)
-  owner-some q = go o e
+  pub worker-some : 1 ≤ n → numberOrNone o ≡ decimal (n - 1)
+  worker-some q = go o e
     where
       go : (o : Option ℕ) → optionCode o ≡ n → numberOrNone o ≡ decimal (n - 1)
       go none h = absurd (omega arith)

@@ -1,10 +1,11 @@
 -- The report of a state, byte for byte.
 use Prim.Native.Nat.{ℕ, suc}
+use mathlib.Core.Path.{_≡_, refl}
 use mathlib.Core.Bool.{Bool, cond}
 use mathlib.Core.List.{List, [], _∷_, _++_}
-use mathlib.Core.Option.{Option}
+use mathlib.Core.Option.{Option, none, some}
 use lib.Dec.{leb}
-use Rattle.text.specs.Text.{bytes, decimal, numberIf, numberOrNone, line}
+use Rattle.text.specs.Text.{bytes, digitsBefore, decimal, numberIf, numberOrNone, line}
 use Rattle.plan.specs.Plan.{Task}
 use Rattle.tasks.specs.Tasks.{Status, new, waiting, ready, held, running, over, stage}
 use Rattle.machine.specs.State.{Setup, State}
@@ -31,11 +32,19 @@ knownFrom first status n = numberIf (leb (stage first) (stage status)) n
 abbrev pub outcomeFields : Bool → ℕ → List (List ℕ)
 outcomeFields finished picks = bytes "E" ∷ outcomeName finished ∷ decimal picks ∷ []
 
--- worker and receipt appear from run on, the ending when the task is over
-abbrev pub taskFields : ℕ → List ℕ → Status → ℕ → ℕ → ℕ → List (List ℕ)
-taskFields i label status runner receipt ending =
+-- worker and receipt appear from run on, the ending when the task is over; the giver from the hand-over on that lets the taker in, so
+-- while the task is still held, or from the taking on
+abbrev pub taskFields : ℕ → List ℕ → Status → ℕ → ℕ → ℕ → Option ℕ → List (List ℕ)
+taskFields i label status runner receipt ending giver =
     bytes "T" ∷ decimal i ∷ label ∷ statusName status
-    ∷ knownFrom running status runner ∷ knownFrom running status receipt ∷ knownFrom over status ending ∷ []
+    ∷ knownFrom running status runner ∷ knownFrom running status receipt ∷ knownFrom over status ending ∷ numberOrNone giver ∷ []
+
+-- computed: a task that worker 1 gives to worker 0, held before the hand-over and after it, and over
+pub given-shown : (line (taskFields 0 (bytes "a") held 0 0 0 none) ≡ bytes "T\t0\ta\theld\t-\t-\t-\t-\n")
+    × (line (taskFields 0 (bytes "a") held 0 0 0 (some 1)) ≡ bytes "T\t0\ta\theld\t-\t-\t-\t1\n")
+    × (line (taskFields 0 (bytes "a") over 0 13 14 (some 1)) ≡ bytes "T\t0\ta\tover\t0\t13\t14\t1\n")
+unfolding bytes digitsBefore decimal line
+given-shown = (refl, refl, refl)
 
 abbrev pub lockFields : ℕ → ℕ → Option ℕ → List (List ℕ)
 lockFields head tail owner = bytes "L" ∷ decimal head ∷ decimal tail ∷ numberOrNone owner ∷ []
@@ -49,7 +58,7 @@ module _ (c : Setup) (s : State) where
   abbrev pub taskLine : ℕ → Task → List ℕ
   taskLine i t =
       let now = s .tasks in
-      line (taskFields i (t .label) (now .status i) (now .runner i) (now .receipt i) (now .ending i))
+      line (taskFields i (t .label) (now .status i) (now .runner i) (now .receipt i) (now .ending i) (s .giver i))
 
   -- the lines of the tasks from number i on
   unfoldable pub taskLines : ℕ → List Task → List ℕ

@@ -1,8 +1,8 @@
--- What a summary, the array of the tasks, that of their labels' places and the plan's text say of a state.
-use Prim.Native.Nat.{ℕ}
+-- What a summary, the array of the tasks, those of their labels' places and of their givers, and the plan's text say of a state.
+use Prim.Native.Nat.{ℕ, _<_}
 use mathlib.Core.Path.{_≡_}
 use mathlib.Core.List.{List}
-use lib.ListN.{length}
+use lib.ListN.{length, getD}
 use Rattle.tasks.specs.Accesses.{taskAt}
 use Rattle.machine.specs.State.{Setup, State}
 use Rattle.machine.specs.Step.{finished}
@@ -17,10 +17,10 @@ use Rattle.report.specs.declared.Summary.{Summary}
 abbrev pub fieldsOf : Setup → State → ℕ → List (List ℕ)
 fieldsOf c s i =
     let now = s .tasks in
-    taskFields i (taskAt (c .tasks) i .label) (now .status i) (now .runner i) (now .receipt i) (now .ending i)
+    taskFields i (taskAt (c .tasks) i .label) (now .status i) (now .runner i) (now .receipt i) (now .ending i) (s .giver i)
 
 -- of one task
-pub record TaskShown (c : Setup) (s : State) (table places text : List ℕ) (i : ℕ) : Type 0 where
+pub record TaskShown (c : Setup) (s : State) (table places given text : List ℕ) (i : ℕ) : Type 0 where
   pub outcome :
       outcomeAt table i
       ≡ record {
@@ -30,8 +30,9 @@ pub record TaskShown (c : Setup) (s : State) (table places text : List ℕ) (i :
         ending = s .tasks .ending i;
       }
   pub label : labelIn text (labelAt places i) ≡ taskAt (c .tasks) i .label
+  pub giver : getD given i 0 ≡ optionCode (s .giver i)
 
-pub record Shown (c : Setup) (s : State) (summary : Summary) (table places text : List ℕ) : Type 0 where
+pub record Shown (c : Setup) (s : State) (summary : Summary) (table places given text : List ℕ) : Type 0 where
   pub finished : summary .finished ≡ finished c s
   pub picks : summary .picks ≡ s .picks
   pub head : summary .head ≡ s .lock .head
@@ -40,3 +41,4 @@ pub record Shown (c : Setup) (s : State) (summary : Summary) (table places text 
   pub count : summary .tasks ≡ length (c .tasks)
   pub rows : TaskRows (c .tasks) table (s .tasks .count) (s .tasks .status) (s .tasks .runner) (s .tasks .receipt) (s .tasks .ending)
   pub labels : Labels (c .tasks) text places
+  pub givers : (i : ℕ) → i < length (c .tasks) → getD given i 0 ≡ optionCode (s .giver i)

@@ -16,7 +16,7 @@ use Rattle.memory.specs.Layout as layout
 use Rattle.machine.specs.Whereabouts.{owner}
 use Rattle.report.specs.Report.{outcomeName, statusName, knownFrom, outcomeLine, taskLine, taskLines, lockLine, report}
 use Rattle.text.specs.Decimals.{decimal-short, decimal-20, numberSize}
-use Rattle.text.specs.Lines.{length-3, length-4, length-7}
+use Rattle.text.specs.Lines.{length-3, length-4, length-8}
 
 -- how many bytes the words of a status and of an outcome have at most, with the tab after them
 abbrev pub statusSize : ℕ
@@ -30,14 +30,14 @@ abbrev pub outcomeLineSize : ℕ
 outcomeLineSize = 2 + outcomeSize + numberSize
 
 abbrev pub taskLineSize : ℕ
-taskLineSize = 2 + numberSize + (layout.mostLabel + 1) + statusSize + 3 * numberSize
+taskLineSize = 2 + numberSize + (layout.mostLabel + 1) + statusSize + 4 * numberSize
 
 abbrev pub lockLineSize : ℕ
 lockLineSize = 2 + 3 * numberSize
 
--- a task's line has at most 91: its number has three digits, and only `over` has three numbers after it
+-- a task's line has at most 112: its number has three digits, and only `over` has four numbers after it
 abbrev pub longest : ℕ
-longest = outcomeLineSize + 91 * layout.mostTasks + lockLineSize
+longest = outcomeLineSize + 112 * layout.mostTasks + lockLineSize
 
 -- at most so many tasks, labels of at most so many bytes, and numbers of 64 bits
 pub record Small (c : Setup) (s : State) : Type 0 where
@@ -50,18 +50,20 @@ pub record Small (c : Setup) (s : State) : Type 0 where
   pub runner : (i : ℕ) → i < length (c .tasks) → s .tasks .runner i < 2 ^ 64
   pub receipt : (i : ℕ) → i < length (c .tasks) → s .tasks .receipt i < 2 ^ 64
   pub ending : (i : ℕ) → i < length (c .tasks) → s .tasks .ending i < 2 ^ 64
+  pub giver : (i g : ℕ) → i < length (c .tasks) → s .giver i ≡ some g → g < 2 ^ 64
 
 pub outcome-short : (done : Bool) → length (outcomeName done) ≤ 8
 unfolding bytes
 outcome-short true = omega arith
 outcome-short false = omega arith
 
-owner-short : (o : Option ℕ) → ((w : ℕ) → o ≡ some w → w < 2 ^ 64) → length (numberOrNone o) ≤ 20
+-- an owner's number or a giver's
+worker-short : (o : Option ℕ) → ((w : ℕ) → o ≡ some w → w < 2 ^ 64) → length (numberOrNone o) ≤ 20
 unfolding bytes
-owner-short none h = omega arith
-owner-short (some w) h = decimal-20 w (h w refl)
+worker-short none h = omega arith
+worker-short (some w) h = decimal-20 w (h w refl)
 
--- a status and what stands after it
+-- a status and the three numbers after it, which it may not yet show
 figures-short : (st : Status) (a b e : ℕ) → a < 2 ^ 64 → b < 2 ^ 64 → e < 2 ^ 64
     → length (statusName st) + length (knownFrom running st a) + length (knownFrom running st b) + length (knownFrom over st e) ≤ 64
 unfolding bytes
@@ -73,33 +75,37 @@ figures-short running a b e p q r = omega (arith, decimal-20 a p, decimal-20 b q
 figures-short over a b e p q r = omega (arith, decimal-20 a p, decimal-20 b q, decimal-20 e r)
 
 module _ (c : Setup) (s : State) where
+  -- the numbers after task i's status are of 64 bits
+  abbrev Figures : ℕ → Type 0
+  Figures i =
+      (s .tasks .runner i < 2 ^ 64) × (s .tasks .receipt i < 2 ^ 64) × (s .tasks .ending i < 2 ^ 64)
+      × ((g : ℕ) → s .giver i ≡ some g → g < 2 ^ 64)
+
   task-short : (i : ℕ) (t : Task) → i < layout.mostTasks → length (t .label) ≤ layout.mostLabel
-      → s .tasks .runner i < 2 ^ 64 → s .tasks .receipt i < 2 ^ 64 → s .tasks .ending i < 2 ^ 64
-      → length (taskLine c s i t) ≤ 91
+      → Figures i → length (taskLine c s i t) ≤ 112
   unfolding bytes
-  task-short i t h k p q r =
+  task-short i t h k n =
       let status = s .tasks .status i in
       omega (
         arith,
         decimal-short 2 i (omega arith),
-        figures-short status (s .tasks .runner i) (s .tasks .receipt i) (s .tasks .ending i) p q r,
-        length-7 (bytes "T") (decimal i) (t .label) (statusName status)
+        figures-short status (s .tasks .runner i) (s .tasks .receipt i) (s .tasks .ending i) (n .0) (n .1) (n .2),
+        worker-short (s .giver i) (n .3),
+        length-8 (bytes "T") (decimal i) (t .label) (statusName status)
             (knownFrom running status (s .tasks .runner i)) (knownFrom running status (s .tasks .receipt i))
-            (knownFrom over status (s .tasks .ending i)),
+            (knownFrom over status (s .tasks .ending i)) (numberOrNone (s .giver i)),
       )
 
   tasks-short : (i : ℕ) (ts : List Task) → i + length ts ≤ layout.mostTasks
       → ((k : ℕ) → k < length ts → length (taskAt ts k .label) ≤ layout.mostLabel)
-      → ((k : ℕ) → k < i + length ts → (s .tasks .runner k < 2 ^ 64) × (s .tasks .receipt k < 2 ^ 64) × (s .tasks .ending k < 2 ^ 64))
-      → length (taskLines c s i ts) ≤ 91 * length ts
+      → ((k : ℕ) → k < i + length ts → Figures k) → length (taskLines c s i ts) ≤ 112 * length ts
   unfolding taskLines
   tasks-short i [] h k n = omega arith
   tasks-short i (t ∷ ts) h k n =
-      let here : (s .tasks .runner i < 2 ^ 64) × (s .tasks .receipt i < 2 ^ 64) × (s .tasks .ending i < 2 ^ 64) = n i (omega arith) in
       omega (
         arith,
         length-append (taskLine c s i t) (taskLines c s (suc i) ts),
-        task-short i t (omega arith) (k 0 (omega arith)) (here .0) (here .1) (here .2),
+        task-short i t (omega arith) (k 0 (omega arith)) (n i (omega arith)),
         tasks-short (suc i) ts (omega arith) (λ j g. k (suc j) (omega arith)) (λ j g. n j (omega arith)),
       )
 
@@ -117,8 +123,10 @@ module _ (c : Setup) (s : State) where
         length-4 (bytes "L") (decimal (s .lock .head)) (decimal (s .lock .tail)) (numberOrNone (owner c s)),
         decimal-20 (s .lock .head) (small .head),
         decimal-20 (s .lock .tail) (small .tail),
-        owner-short (owner c s) (small .owner),
+        worker-short (owner c s) (small .owner),
         small .tasks,
         tasks-short 0 (c .tasks) (rw z (small .tasks)) (small .labels)
-            (λ k g. let h : k < length (c .tasks) = rw z at g in (small .runner k h, small .receipt k h, small .ending k h)),
+            (λ k g.
+            let h : k < length (c .tasks) = rw z at g in
+            (small .runner k h, small .receipt k h, small .ending k h, λ w. small .giver k w h)),
       )

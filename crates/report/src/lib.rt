@@ -35,39 +35,45 @@ fn put_task(
     text: &[u8],
     tasks: &[u64],
     labels: &[u64],
+    givers: &[u64],
     out: &mut [u8],
     at: usize,
 ) -> usize
-    requires { ⌜ (length (now tasks) ≡ layout.taskRows) × (length (now labels) ≡ layout.labelRows) × (i < layout.mostTasks)
-        × (labelAt (now labels) i .size ≤ layout.mostLabel) × (at + taskLineSize < 2 ^ 64) ⌝ }
+    requires { ⌜ (length (now tasks) ≡ layout.taskRows) × (length (now labels) ≡ layout.labelRows)
+        × (layout.mostTasks ≤ length (now givers)) × (i < layout.mostTasks) × (labelAt (now labels) i .size ≤ layout.mostLabel)
+        × (at + taskLineSize < 2 ^ 64) ⌝ }
     ensures short { λ r. ⌜ r ≤ at + taskLineSize ⌝ }
-    ensures wrote { λ r. ⌜ ((c : Setup) (s : State) → TaskShown c s (now (tasks .entry)) (now (labels .entry)) (now (text .entry)) i
+    ensures wrote { λ r. ⌜ ((c : Setup) (s : State)
+        → TaskShown c s (now (tasks .entry)) (now (labels .entry)) (now (givers .entry)) (now (text .entry)) i
         → Wrote (now (out .entry)) at (fields (fieldsOf c s i)) r (now (out .exit))) ⌝ }
 {
     let stands = label_of(labels, i);
     let label = kept::tasks::label(text, stands.place as usize, stands.size as usize);
-    put_task_line(i as u64, label, outcome_of(tasks, i), out, at)
+    put_task_line(i as u64, label, outcome_of(tasks, i), givers[i], out, at)
 }
 
-// Writes the report into the first bytes of an output, as far as it reaches; how many bytes it has. The numbers must show a state, so
-// for every call that is allowed the output is fixed.
+// Writes the report into the first bytes of an output, as far as it reaches; how many bytes it has. By task, `givers` has the giver's
+// number and 1 more, or 0. The numbers must show a state, so for every call that is allowed the output is fixed.
 pub fn put_report(
     summary: Summary,
     text: &[u8],
     tasks: &[u64],
     labels: &[u64],
+    givers: &[u64],
     output: &mut [u8],
 ) -> usize
-    requires { ⌜ (length (now tasks) ≡ layout.taskRows) × (length (now labels) ≡ layout.labelRows) × (summary .tasks ≤ layout.mostTasks) ⌝ }
-    requires { ⌜ ((c : Setup) × (s : State) × Shown c s summary (now tasks) (now labels) (now text)) ⌝ }
-    ensures { λ r. ⌜ ((c : Setup) (s : State) → Shown c s summary (now (tasks .entry)) (now (labels .entry)) (now (text .entry))
+    requires { ⌜ (length (now tasks) ≡ layout.taskRows) × (length (now labels) ≡ layout.labelRows)
+        × (layout.mostTasks ≤ length (now givers)) × (summary .tasks ≤ layout.mostTasks) ⌝ }
+    requires { ⌜ ((c : Setup) × (s : State) × Shown c s summary (now tasks) (now labels) (now givers) (now text)) ⌝ }
+    ensures { λ r. ⌜ ((c : Setup) (s : State)
+        → Shown c s summary (now (tasks .entry)) (now (labels .entry)) (now (givers .entry)) (now (text .entry))
         → Wrote (now (output .entry)) 0 (plain (report c s)) r (now (output .exit))) ⌝ }
 {
     let n = summary.tasks as usize;
     let mut next = put_outcome_line(summary.finished, summary.picks, output, 0);
     let mut i: usize = 0;
     while i < n {
-        next = put_task(i, text, tasks, labels, output, next);
+        next = put_task(i, text, tasks, labels, givers, output, next);
         i += 1;
     }
     put_lock_line(summary.head, summary.tail, summary.owner, output, next)

@@ -10,8 +10,8 @@ ghost use Rattle.memory.specs.Codes.{statusCode, optionCode};
 ghost use Rattle.report.specs.Report.{outcomeFields, taskFields, lockFields};
 ghost use Rattle.report.specs.Sizes.{outcomeLineSize, taskLineSize, lockLineSize};
 use crate::word::put_outcome;
-use crate::word::put_owner;
 use crate::word::put_status;
+use crate::word::put_worker;
 use memory::layout;
 use memory::rows::Outcome;
 use text::number::put_if;
@@ -36,14 +36,21 @@ pub(crate) fn put_lock_line(head: u64, tail: u64, owner: u64, out: &mut [u8], at
     let next = put_field(b"L", b'\t', out, at);
     let next = put_number(head, b'\t', out, next);
     let next = put_number(tail, b'\t', out, next);
-    put_owner(owner, out, next)
+    put_worker(owner, out, next)
 }
 
-pub(crate) fn put_task_line(i: u64, label: &[u8], task: Outcome, out: &mut [u8], at: usize) -> usize
+pub(crate) fn put_task_line(
+    i: u64,
+    label: &[u8],
+    task: Outcome,
+    giver: u64,
+    out: &mut [u8],
+    at: usize,
+) -> usize
     requires { ⌜ (at + taskLineSize < 2 ^ 64) × (length (now label) ≤ layout.mostLabel) ⌝ }
     ensures short { λ r. ⌜ r ≤ at + taskLineSize ⌝ }
-    ensures wrote { λ r. ⌜ ((x : Status) → statusCode x ≡ task .status
-        → Wrote (now (out .entry)) at (fields (taskFields i (now (label .entry)) x (task .runner) (task .receipt) (task .ending)))
+    ensures wrote { λ r. ⌜ ((x : Status) (g : Option ℕ) → statusCode x ≡ task .status → optionCode g ≡ giver
+        → Wrote (now (out .entry)) at (fields (taskFields i (now (label .entry)) x (task .runner) (task .receipt) (task .ending) g))
         r (now (out .exit))) ⌝ }
 {
     let begun = layout::RUNNING <= task.status;
@@ -54,5 +61,6 @@ pub(crate) fn put_task_line(i: u64, label: &[u8], task: Outcome, out: &mut [u8],
     let next = put_status(task.status, out, next);
     let next = put_if(begun, task.runner, b'\t', out, next);
     let next = put_if(begun, task.receipt, b'\t', out, next);
-    put_if(over, task.ending, b'\n', out, next)
+    let next = put_if(over, task.ending, b'\t', out, next);
+    put_worker(giver, out, next)
 }

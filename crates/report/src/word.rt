@@ -39,14 +39,15 @@ pub(crate) fn put_status(status: u64, out: &mut [u8], at: usize) -> usize
     }
 }
 
-// The owner's number, which is given as 1 more, or none, given as 0.
-pub(crate) fn put_owner(owner: u64, out: &mut [u8], at: usize) -> usize
+// A worker's number, which is given as 1 more, or none, given as 0: the last field of its line.
+pub(crate) fn put_worker(worker: u64, out: &mut [u8], at: usize) -> usize
     requires { ⌜ at + numberSize < 2 ^ 64 ⌝ }
-    ensures { λ r. ⌜ ((o : Option ℕ) → optionCode o ≡ owner
+    ensures short { λ r. ⌜ r ≤ at + numberSize ⌝ }
+    ensures wrote { λ r. ⌜ ((o : Option ℕ) → optionCode o ≡ worker
         → Wrote (now (out .entry)) at (field (numberOrNone o) lineFeed) r (now (out .exit))) ⌝ }
 {
-    if owner == 0 {
+    if worker == 0 {
         return put_field(b"-", b'\n', out, at);
     }
-    put_number(owner - 1, b'\n', out, at)
+    put_number(worker - 1, b'\n', out, at)
 }

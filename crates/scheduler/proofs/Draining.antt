@@ -1,11 +1,13 @@
 -- Worker w drains the queue of worker k, which may be itself: the device's part of k changes, then that of w.
-use Prim.Native.Nat.{ℕ, suc, _+_, _≤_, _<_}
+use Prim.Native.Nat.{ℕ, zero, suc, _+_, _%_, _≤_, _<_}
 use native.Mathlib.Omega.{arith}
 use native.Mathlib.Numerals.{add-one}
+use native.Mathlib.Nat.{mod-lt}
 use mathlib.Core.Path.{_≡_, refl, sym, ap, _∙_}
 use mathlib.Core.Logic.{_⊎_, inl, inr, _≢_}
 use mathlib.Core.List.{List, [], _++_}
 use lib.ListN.{length, getD, length-append}
+use lib.Seq.{getD-set-other}
 use borrow.Author.Tests.{lt-ltb, le-ltb}
 use Rattle.runs.specs.Update.{upd, upd-id, upd-both, map-upd}
 use Rattle.runs.specs.Circular.{entries}
@@ -15,14 +17,14 @@ use Rattle.machine.specs.State.{Place, idle, trying, registering, looking, drai
 use Rattle.machine.specs.Step.{afterDraining, nextDrain}
 use Rattle.machine.specs.Events.{event-drain}
 use Rattle.machine.specs.Ranges.{Fit, acted}
-use Rattle.steps.specs.Layout.{stationSize, placeAt, numberAt, queuedAt, mostWorkers, CAPACITY, READY}
+use Rattle.steps.specs.Layout.{stationSize, placeAt, numberAt, queuedAt, queueFrom, mostWorkers, CAPACITY, READY, GIVERS}
 use Rattle.steps.specs.Layout.{DRAINING_TO_SERVE, DRAINING_TO_ADD, SERVING, LEAVING}
 use Rattle.steps.specs.Codes.{Coded}
-use Rattle.steps.specs.Memory.{part, station, Stationed, Memory, Holds}
+use Rattle.steps.specs.Memory.{part, station, Stationed, drained, Memory, Holds}
 use Rattle.steps.specs.declared.Counts.{Counts}
 use Rattle.steps.proofs.Parts.{station-at, part-of, station-of}
 use Rattle.steps.proofs.Stations.{queue-count}
-use Rattle.scheduler.specs.Lent.{withReady}
+use Rattle.scheduler.specs.Lent.{withDevice}
 use Rattle.scheduler.proofs.Lending.{withStation}
 
 -- ---- the places
@@ -69,6 +71,21 @@ module _ (c : Setup) (p : Purpose) (k n a : ℕ) (h : Coded n a (draining p k)) 
       go : (x : Purpose) → Coded n a (draining x k) → Coded LEAVING 0 (afterDraining c x)
       go forServing e = absurd (other (e .0))
       go forAdding e = refl
+
+-- ---- the device's array
+
+-- what lies behind the slots of the ready list stays
+drained-at : (own ready : List ℕ) (at n k j : ℕ) → GIVERS ≤ j → getD (drained own ready at n k) j 0 ≡ getD ready j 0
+unfolding drained
+drained-at own ready at n zero j l = refl
+drained-at own ready at n (suc k) j l =
+    let slot : (at + n + k) % READY < READY = mod-lt (at + n + k) (omega arith) in
+    getD-set-other (drained own ready at n k) ((at + n + k) % READY) j (getD own (queueFrom + k) 0) 0 (λ e. omega arith)
+    ∙ drained-at own ready at n k j l
+
+pub drained-behind : (own ready : List ℕ) (at n k : ℕ) {more : List ℕ} → more ≡ drained own ready at n k
+    → (j : ℕ) → GIVERS ≤ j → getD more j 0 ≡ getD ready j 0
+drained-behind own ready at n k e j l = ap (λ (xs : List ℕ). getD xs j 0) e ∙ drained-at own ready at n k j l
 
 -- ---- the shares with another part of the device
 
@@ -119,7 +136,7 @@ module _ {c : Setup} {m : Memory} {shares : ℕ → List ℕ} {s : State} {w : �
     pub drained-room : m .counts .ready + getD (stations k) queuedAt 0 ≤ READY
     drained-room =
         let after : length (s .readyList ++ s .queue k) ≤ READY = rw (event-drain c s w stands-at) at (fit .room-ready) in
-        let counted = entries-length (λ i. getD (m .ready) i 0) READY (m .counts .«ready_at») (m .counts .ready) in
+        let counted = entries-length (λ i. getD (m .device) i 0) READY (m .counts .«ready_at») (m .counts .ready) in
         let queued = queue-count (h .device .stationed k drained-worker) in
         omega (arith, simp length-append at after, counted, ap length (h .device .ready), queued)
 
@@ -143,11 +160,12 @@ module _ {c : Setup} {m : Memory} {shares : ℕ → List ℕ} {s : State} {w : �
 
       pub drain-acts : (two more : List ℕ) (r : ℕ)
           → ((p : Place) (q is : List ℕ) → Stationed (stations k) p q
-          → entries (λ i. getD (m .ready) i 0) READY (m .counts .«ready_at») (m .counts .ready) ≡ is
+          → entries (λ i. getD (m .device) i 0) READY (m .counts .«ready_at») (m .counts .ready) ≡ is
           → entries (λ i. getD more i 0) READY (m .counts .«ready_at») r ≡ is ++ q)
+          → ((j : ℕ) → GIVERS ≤ j → getD more j 0 ≡ getD (m .device) j 0)
           → ((x : Purpose) (q : List ℕ) → Stationed (upd stations k one w) (draining x k) q → Stationed two (nextDrain c x k) q)
-          → Holds c (withReady m (readied (m .counts) r) more) (withStation (withStation shares k one) w two) (acted c s w)
-      drain-acts two more r moved next =
+          → Holds c (withDevice m (readied (m .counts) r) more) (withStation (withStation shares k one) w two) (acted c s w)
+      drain-acts two more r moved kept next =
           let to = nextDrain c (stands .0) k in
           let first = withStation shares k one in
           let own = next (stands .0) (upd (s .queue) k [] w) emptied-own in
@@ -163,6 +181,7 @@ module _ {c : Setup} {m : Memory} {shares : ℕ → List ℕ} {s : State} {w : �
                       upd-both (λ v y p. v < c .workers → Stationed y p (upd (s .queue) k [] v)) (upd stations k one) (s .place) w two to
                       (λ l. own) (λ v d l. emptied-all v l) v l;
                   ready-at = h .device .ready-at;
+                  givers = λ i l. kept (GIVERS + i) (omega arith) ∙ h .device .givers i l;
                   ready = moved (s .place k) (s .queue k) (s .readyList) (h .device .stationed k drained-worker) (h .device .ready);
                 });
             picks = h .picks;

@@ -46,7 +46,7 @@ module _ {m : Memory} where
         registrations = l .registrations;
         tickets = l .tickets;
         cells = l .cells;
-        ready = l .ready;
+        device = l .device;
         tasks = l .tasks;
       }
 
@@ -61,6 +61,7 @@ module _ {m : Memory} where
           stationed = h .device .stationed;
           ready-at = h .device .ready-at;
           ready = h .device .ready;
+          givers = h .device .givers;
         };
         picks = omega (arith, h .picks);
       }

@@ -11,7 +11,7 @@ ghost use Rattle.machine.specs.Ranges.{Fit, acted};
 ghost use Rattle.steps.specs.Layout.{stationSize, placeAt, mostWorkers, sharesSize, IDLE, DRAINING_TO_SERVE, DRAINING_TO_ADD};
 ghost use Rattle.steps.specs.Memory.{share, Stationed, Memory, Long, withTasks, withCounts, Holds, Able, Acts};
 ghost use Rattle.scheduler.specs.Starting.{freshCounts};
-ghost use Rattle.scheduler.specs.Lent.{memory, withReady};
+ghost use Rattle.scheduler.specs.Lent.{memory, withDevice};
 use duties::create::is_creating;
 use lock::Ends;
 use lock_steps::owner::hand_step;
@@ -95,20 +95,20 @@ fn step_own(
     registrations: &mut [u64],
     tickets: &mut [u64],
     cells: &mut [u64],
-    ready: &[u64],
+    device: &mut [u64],
     rows: &mut [u64],
     accesses: &mut [u64],
     own: &mut [u64],
     w: u64,
 ) -> Counts
-    requires { ⌜ Able (memory n (now wait) (now registrations) (now tickets) (now cells) (now ready) (now rows) (now accesses))
+    requires { ⌜ Able (memory n (now wait) (now registrations) (now tickets) (now cells) (now device) (now rows) (now accesses))
         (now own) w ⌝ }
     requires { ⌜ (getD (now own) placeAt 0 ≢ DRAINING_TO_SERVE) × (getD (now own) placeAt 0 ≢ DRAINING_TO_ADD) ⌝ }
     ensures { λ r. ⌜ Acts
         (memory n (now (wait .entry)) (now (registrations .entry)) (now (tickets .entry)) (now (cells .entry))
-        (now (ready .entry)) (now (rows .entry)) (now (accesses .entry))) (now (own .entry))
+        (now (device .entry)) (now (rows .entry)) (now (accesses .entry))) (now (own .entry))
         (memory r (now (wait .exit)) (now (registrations .exit)) (now (tickets .exit)) (now (cells .exit))
-        (now (ready .entry)) (now (rows .exit)) (now (accesses .exit))) (now (own .exit)) w ⌝ }
+        (now (device .exit)) (now (rows .exit)) (now (accesses .exit))) (now (own .exit)) w ⌝ }
 {
     let place = own[PLACE];
     match place {
@@ -122,9 +122,9 @@ fn step_own(
             look_step(n, wait, tickets, cells, rows, own, w);
             n
         }
-        SERVING => serve_step(n, registrations, tickets, cells, ready, rows, own, w),
-        HANDING => hand_step(n, wait, own, w),
-        _ => leave_step(n, wait, own, w),
+        SERVING => serve_step(n, registrations, tickets, cells, device, rows, own, w),
+        HANDING => hand_step(n, wait, registrations, tickets, cells, device, own, w),
+        _ => leave_step(n, wait, registrations, tickets, cells, device, own, w),
     }
 }
 
@@ -145,15 +145,15 @@ fn drained(own: &mut [u64], k: u64, workers: u64)
 }
 
 // Drains a queue into the ready list: the device's part of its worker is lent, then that of worker w.
-fn drain_step(n: Counts, ready: &mut [u64], store: &mut [u64], w: usize) -> Counts
+fn drain_step(n: Counts, device: &mut [u64], store: &mut [u64], w: usize) -> Counts
     requires { ⌜ (sharesSize ≤ length (now store)) × (w < mostWorkers)
         × ((getD (share (now store) w) placeAt 0 ≡ DRAINING_TO_SERVE)
         ⊎ (getD (share (now store) w) placeAt 0 ≡ DRAINING_TO_ADD)) ⌝ }
-    requires { ⌜ ((m : Memory) × (c : Setup) × (s : State) × Long (withReady m n (now ready))
-        × Holds c (withReady m n (now ready)) (share (now store)) s × Fit c s w) ⌝ }
+    requires { ⌜ ((m : Memory) × (c : Setup) × (s : State) × Long (withDevice m n (now device))
+        × Holds c (withDevice m n (now device)) (share (now store)) s × Fit c s w) ⌝ }
     ensures held { λ r. ⌜ ((m : Memory) (c : Setup) (s : State) →
-        Holds c (withReady m n (now (ready .entry))) (share (now (store .entry))) s → Fit c s w →
-        Holds c (withReady m r (now (ready .exit))) (share (now (store .exit))) (acted c s w)) ⌝ }
+        Holds c (withDevice m n (now (device .entry))) (share (now (store .entry))) s → Fit c s w →
+        Holds c (withDevice m r (now (device .exit))) (share (now (store .exit))) (acted c s w)) ⌝ }
     ensures later { λ _. ⌜ drop sharesSize (now (store .exit)) ≡ drop sharesSize (now (store .entry)) ⌝ }
 {
     let at = w * SHARE;
@@ -162,7 +162,7 @@ fn drain_step(n: Counts, ready: &mut [u64], store: &mut [u64], w: usize) -> Coun
     let from = k as usize * SHARE;
     let to = k as usize * SHARE + STATION;
     let mut r = n;
-    r.ready = drain(&mut store[from..to], ready, n.ready_at, n.ready);
+    r.ready = drain(&mut store[from..to], device, n.ready_at, n.ready);
     drained(&mut store[at..end], k, n.workers);
     r
 }
@@ -175,7 +175,7 @@ pub fn pick(
     registrations: &mut [u64],
     tickets: &mut [u64],
     cells: &mut [u64],
-    ready: &mut [u64],
+    device: &mut [u64],
     rows: &mut [u64],
     accesses: &mut [u64],
     store: &mut [u64],
@@ -183,16 +183,16 @@ pub fn pick(
 ) -> Counts
     requires { ⌜ sharesSize ≤ length (now store) ⌝ }
     requires { ⌜ ((c : Setup) × (s : State)
-        × Long (memory n (now wait) (now registrations) (now tickets) (now cells) (now ready) (now rows) (now accesses))
-        × Holds c (memory n (now wait) (now registrations) (now tickets) (now cells) (now ready) (now rows) (now accesses))
+        × Long (memory n (now wait) (now registrations) (now tickets) (now cells) (now device) (now rows) (now accesses))
+        × Holds c (memory n (now wait) (now registrations) (now tickets) (now cells) (now device) (now rows) (now accesses))
         (share (now store)) s
         × Fit c (picked s) w) ⌝ }
     ensures held { λ r. ⌜ ((c : Setup) (s : State) →
         Holds c (memory n (now (wait .entry)) (now (registrations .entry)) (now (tickets .entry)) (now (cells .entry))
-        (now (ready .entry)) (now (rows .entry)) (now (accesses .entry))) (share (now (store .entry))) s →
+        (now (device .entry)) (now (rows .entry)) (now (accesses .entry))) (share (now (store .entry))) s →
         Fit c (picked s) w →
         Holds c (memory r (now (wait .exit)) (now (registrations .exit)) (now (tickets .exit)) (now (cells .exit))
-        (now (ready .exit)) (now (rows .exit)) (now (accesses .exit))) (share (now (store .exit))) (step c s w)) ⌝ }
+        (now (device .exit)) (now (rows .exit)) (now (accesses .exit))) (share (now (store .exit))) (step c s w)) ⌝ }
     ensures later { λ _. ⌜ drop sharesSize (now (store .exit)) ≡ drop sharesSize (now (store .entry)) ⌝ }
 {
     let mut r = n;
@@ -208,14 +208,14 @@ pub fn pick(
             registrations,
             tickets,
             cells,
-            ready,
+            device,
             rows,
             accesses,
             &mut store[at..end],
             w as u64,
         );
     }
-    drain_step(r, ready, store, w)
+    drain_step(r, device, store, w)
 }
 
 // Whether the state is finished.

@@ -17,7 +17,7 @@ use Rattle.machine.specs.Event.{Event, event}
 use Rattle.machine.specs.Step.{lockOp, taskOp, effect, lockAfter}
 use Rattle.machine.specs.Ranges.{Fit, acted}
 use Rattle.steps.specs.Layout.{shareSize, stationSize, READY}
-use Rattle.steps.specs.Memory.{part, station, Stationed, Memory, Holds, Able}
+use Rattle.steps.specs.Memory.{part, station, Stationed, Memory, Given, Holds, Able}
 use Rattle.steps.proofs.Parts.{parts-upd}
 
 module _ {c : Setup} {m : Memory} {shares : ℕ → List ℕ} {s : State} {w : ℕ}
@@ -32,15 +32,16 @@ module _ {c : Setup} {m : Memory} {shares : ℕ → List ℕ} {s : State} {w : �
       → Stationed (station next) (effect c s w e .place) (effect c s w e .queue w)
       → ((v : ℕ) → v ≢ w → effect c s w e .queue v ≡ s .queue v)
       → n .counts .«ready_at» < READY
-      → entries (λ k. getD (n .ready) k 0) READY (n .counts .«ready_at») (n .counts .ready) ≡ effect c s w e .readyList
+      → entries (λ k. getD (n .device) k 0) READY (n .counts .«ready_at») (n .counts .ready) ≡ effect c s w e .readyList
+      → Given (length (c .tasks)) (n .device) (effect c s w e .giver)
       → n .counts .picks ≡ m .counts .picks
       → Holds c n (upd shares w next) (acted c s w)
-  acts-hold n next lock tasks workers own others ready-at ready picks =
+  acts-hold n next lock tasks workers own others ready-at ready givers picks =
       rw is
       (record {
         lock = lock;
         tasks = rw (parts-upd shares w next) tasks;
-        device = record { workers = workers ∙ h .device .workers; stationed = each; ready-at = ready-at; ready = ready };
+        device = record { workers = workers ∙ h .device .workers; stationed = each; ready-at = ready-at; ready = ready; givers = givers };
         picks = picks ∙ h .picks;
       })
     where

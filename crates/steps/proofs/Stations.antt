@@ -100,7 +100,7 @@ module _ {own : List ℕ} {p : Place} {q : List ℕ} (h : Stationed own p q) whe
       }
 
 -- one turn of a drain: task i of the queue goes behind the n + i in the ready list
-pub drain-turn : (own ready start : List ℕ) (at n i : ℕ) → length ready ≡ READY → n + i < READY → i < CAPACITY
+pub drain-turn : (own ready start : List ℕ) (at n i : ℕ) → READY ≤ length ready → n + i < READY → i < CAPACITY
     → entries (λ k. getD ready k 0) READY at (n + i) ≡ entries (λ k. getD start k 0) READY at n ++ entries (queueSlot own) queueSlots 0 i
     → entries (λ k. getD (set ready ((at + n + i) % READY) (queueSlot own i)) k 0) READY at (n + (i + 1))
     ≡ entries (λ k. getD start k 0) READY at n ++ entries (queueSlot own) queueSlots 0 (i + 1)

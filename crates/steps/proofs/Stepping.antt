@@ -60,6 +60,7 @@ module _ {m : Memory} {own : List ℕ} {w : ℕ} (a : Able m own w) (at : getD o
       (λ v d. refl)
       (a .holds .device .ready-at)
       (a .holds .device .ready)
+      (a .holds .device .givers)
       refl
 
   pub mind-acts : (numbers.free < getD own (stationSize + numbers.stand) 0) ⊎ (0 < getD own (stationSize + numbers.mailCount) 0)
@@ -110,6 +111,7 @@ module _ {m : Memory} {own : List ℕ} {w : ℕ} (a : Able m own w) (at : getD o
               (λ v d. upd-other (a .s .queue) w (a .s .queue w ++ i ∷ []) v d)
               (a .holds .device .ready-at)
               (a .holds .device .ready)
+              (a .holds .device .givers)
               refl
 
       pub full-acts : CAPACITY ≤ getD own queuedAt 0 → (z : List ℕ)
@@ -128,4 +130,5 @@ module _ {m : Memory} {own : List ℕ} {w : ℕ} (a : Able m own w) (at : getD o
           (λ v d. refl)
           (a .holds .device .ready-at)
           (a .holds .device .ready)
+          (a .holds .device .givers)
           refl

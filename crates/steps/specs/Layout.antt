@@ -1,5 +1,5 @@
 -- Where the device's numbers lie: the names of offsets and codes. `src/layout.rt` has the same.
-use Prim.Native.Nat.{ℕ, _*_}
+use Prim.Native.Nat.{ℕ, _+_, _*_}
 use Rattle.memory.specs.Layout as layout
 
 -- a worker's share: the device's part, then the tasks'
@@ -56,7 +56,7 @@ DRAINING_TO_SERVE = 7
 abbrev pub DRAINING_TO_ADD : ℕ
 DRAINING_TO_ADD = 8
 
--- the ring, the queues and the ready list
+-- the ring, the queues and the ready list; the device's array has the slots of the ready list, and behind them by task its giver
 abbrev pub SLOTS : ℕ
 SLOTS = 64
 
@@ -65,6 +65,12 @@ CAPACITY = 8
 
 abbrev pub READY : ℕ
 READY = 128
+
+abbrev pub GIVERS : ℕ
+GIVERS = READY
+
+abbrev pub deviceSize : ℕ
+deviceSize = GIVERS + layout.mostTasks
 
 -- the workers, and the shares of all of them
 abbrev pub mostWorkers : ℕ

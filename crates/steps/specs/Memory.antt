@@ -2,16 +2,18 @@
 use Prim.Native.Nat.{ℕ, zero, suc, _+_, _*_, _-_, _%_, _<_}
 use mathlib.Core.Path.{_≡_}
 use mathlib.Core.List.{List}
+use mathlib.Core.Option.{Option}
 use lib.ListN.{length, getD, set, take, drop}
 use Rattle.runs.specs.Update.{upd}
 use Rattle.lock.specs.Arrays.{lockOf}
 use Rattle.lock.specs.declared.Ends.{Ends}
 use Rattle.runs.specs.Circular.{entries}
+use Rattle.memory.specs.Codes.{optionCode}
 use Rattle.memory.specs.Memory as T
 use Rattle.memory.specs.declared.tally.Tally.{Tally}
 use Rattle.machine.specs.State.{Setup, Place, State}
 use Rattle.machine.specs.Ranges.{Fit, acted}
-use Rattle.steps.specs.Layout.{shareSize, stationSize, placeAt, numberAt, queuedAt, queueFrom, queueSlots, mostWorkers, SLOTS, READY}
+use Rattle.steps.specs.Layout.{shareSize, stationSize, placeAt, numberAt, queuedAt, queueFrom, queueSlots, mostWorkers, SLOTS, READY, GIVERS, deviceSize}
 use Rattle.steps.specs.Codes.{Coded}
 use Rattle.steps.specs.declared.Counts.{Counts}
 
@@ -53,7 +55,7 @@ pub record Memory : Type 0 where
   pub registrations : List ℕ
   pub tickets : List ℕ
   pub cells : List ℕ
-  pub ready : List ℕ
+  pub device : List ℕ
   pub rows : List ℕ
   pub accesses : List ℕ
 
@@ -62,7 +64,7 @@ pub record Long (m : Memory) : Type 0 where
   pub registrations : length (m .registrations) ≡ SLOTS
   pub tickets : length (m .tickets) ≡ mostWorkers
   pub cells : length (m .cells) ≡ mostWorkers
-  pub ready : length (m .ready) ≡ READY
+  pub device : length (m .device) ≡ deviceSize
   pub tasks : T.Long (T.memory (m .counts .tally) (m .rows) (m .accesses))
 
 -- the memory with other numbers and another content of what is named
@@ -74,7 +76,7 @@ withTasks m n rows accesses =
       registrations = m .registrations;
       tickets = m .tickets;
       cells = m .cells;
-      ready = m .ready;
+      device = m .device;
       rows = rows;
       accesses = accesses;
     }
@@ -102,24 +104,29 @@ oneTaken n =
       tally = n .tally;
     }
 
+-- by task, its giver and 1 more, or 0
+abbrev pub Given : ℕ → List ℕ → (ℕ → Option ℕ) → Type 0
+Given tasks device giver = (i : ℕ) → i < tasks → getD device (GIVERS + i) 0 ≡ optionCode (giver i)
+
 -- the device's part
-pub record HoldsDevice (c : Setup) (n : Counts) (list : List ℕ) (stations : ℕ → List ℕ) (place : ℕ → Place) (queue : ℕ → List ℕ)
-    (readyList : List ℕ) : Type 0 where
+pub record HoldsDevice (c : Setup) (n : Counts) (device : List ℕ) (stations : ℕ → List ℕ) (place : ℕ → Place) (queue : ℕ → List ℕ)
+    (readyList : List ℕ) (giver : ℕ → Option ℕ) : Type 0 where
   pub workers : n .workers ≡ c .workers
   pub stationed : (v : ℕ) → v < c .workers → Stationed (stations v) (place v) (queue v)
   pub ready-at : n .«ready_at» < READY
-  pub ready : entries (λ k. getD list k 0) READY (n .«ready_at») (n .ready) ≡ readyList
+  pub ready : entries (λ k. getD device k 0) READY (n .«ready_at») (n .ready) ≡ readyList
+  pub givers : Given (length (c .tasks)) device giver
 
 -- A state lies in this memory and these shares. What neither this nor `HoldsTasks` speaks of is left to the program: in the device's part
 -- the numbers without a name, the slots behind the queue, and the number of a place that speaks of none; the slots of the ready list
--- without a task; the shares past the last worker's. They may be any numbers, before and after: what is held after a step does not depend
+-- without a task; the givers past the last task; the shares past the last worker's. They may be any numbers, before and after: what is held after a step does not depend
 -- on them.
 pub record Holds (c : Setup) (m : Memory) (shares : ℕ → List ℕ) (s : State) : Type 0 where
   pub lock :
       lockOf (c .slots) (m .counts .ends .head .0) (m .counts .ends .tail .0) (m .wait) (m .registrations) (m .tickets) (m .cells) ≡ s .lock
   pub tasks : T.HoldsTasks (c .workers) (c .tasks) (T.memory (m .counts .tally) (m .rows) (m .accesses)) (λ v. part (shares v)) (s .tasks)
       (s .stand)
-  pub device : HoldsDevice c (m .counts) (m .ready) (λ v. station (shares v)) (s .place) (s .queue) (s .readyList)
+  pub device : HoldsDevice c (m .counts) (m .device) (λ v. station (shares v)) (s .place) (s .queue) (s .readyList) (s .giver)
   pub picks : m .counts .picks ≡ s .picks
 
 -- a step of worker w, its share being `own`, can be taken

@@ -1,4 +1,5 @@
 // Where the device's numbers lie: the names of offsets and codes. `specs/Layout.antt` has the same.
+use memory::layout::MOST_TASKS;
 
 // In the device's part: the place, what it speaks of, how many are queued; the queue's slots.
 pub const PLACE: usize = 0;
@@ -28,9 +29,13 @@ pub const DRAINING_TO_SERVE: u64 = 7;
 
 pub const DRAINING_TO_ADD: u64 = 8;
 
-// The ring, the queues and the ready list.
+// The ring, the queues and the ready list; the device's array has the slots of the ready list, and behind them by task its giver.
 pub const SLOTS: u64 = 64;
 
 pub const CAPACITY: u64 = 8;
 
 pub const READY: u64 = 128;
+
+pub const GIVERS: usize = READY as usize;
+
+pub const DEVICE: usize = GIVERS + MOST_TASKS;

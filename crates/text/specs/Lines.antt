@@ -20,7 +20,15 @@ length-3 a b c = omega (arith, more a b (c ∷ []), more b c [], one c)
 pub length-4 : (a b c d : List ℕ) → length (line (a ∷ b ∷ c ∷ d ∷ [])) ≡ length a + length b + length c + length d + 4
 length-4 a b c d = omega (arith, more a b (c ∷ d ∷ []), length-3 b c d)
 
-pub length-7 : (a b c d e f g : List ℕ)
-    → length (line (a ∷ b ∷ c ∷ d ∷ e ∷ f ∷ g ∷ [])) ≡ length a + length b + length c + length d + length e + length f + length g + 7
-length-7 a b c d e f g =
-    omega (arith, more a b (c ∷ d ∷ e ∷ f ∷ g ∷ []), more b c (d ∷ e ∷ f ∷ g ∷ []), more c d (e ∷ f ∷ g ∷ []), length-4 d e f g)
+pub length-8 : (a b c d e f g h : List ℕ)
+    → length (line (a ∷ b ∷ c ∷ d ∷ e ∷ f ∷ g ∷ h ∷ []))
+    ≡ length a + length b + length c + length d + length e + length f + length g + length h + 8
+length-8 a b c d e f g h =
+    omega (
+      arith,
+      more a b (c ∷ d ∷ e ∷ f ∷ g ∷ h ∷ []),
+      more b c (d ∷ e ∷ f ∷ g ∷ h ∷ []),
+      more c d (e ∷ f ∷ g ∷ h ∷ []),
+      more d e (f ∷ g ∷ h ∷ []),
+      length-4 e f g h,
+    )

@@ -1,7 +1,7 @@
 -- What one operation changes: of any lock, and of one that was kept.
 use mathlib.Core.Path.{_≡_, refl, sym, ap, _∙_}
 use mathlib.Core.Logic.{_⊎_, inl, inr, ⊎-elim, _≢_, _↔_}
-use mathlib.Core.Bool.{true}
+use mathlib.Core.Bool.{true, false}
 use mathlib.Core.Option.{some}
 use Prim.Native.Nat.{ℕ, suc, _+_, _≤_, _<_}
 use native.Mathlib.Omega.{arith}
@@ -11,12 +11,12 @@ use Rattle.lock.specs.Lock.{Lock, turn, front}
 use Rattle.lock.specs.History.{Stand, out, taken, waiting, owning, serving, Op, take, register, own, receive, fill, pass, leave, try}
 use Rattle.lock.specs.History.{Can, can-take, can-register, can-own, can-receive, can-fill, can-pass, can-leave, can-try, after}
 use Rattle.lock.specs.History.{standAfter}
-use Rattle.lock.specs.History.{handsOver, takes, registers, fills, InCell}
+use Rattle.lock.specs.History.{handsOver, takes, registers, fills, Owner, InCell}
 use Rattle.lock.specs.Inside.Ring.{Slots, slots-handed}
 use Rattle.lock.specs.Inside.Invariant.{Inv}
-use Rattle.lock.specs.Inside.Facts.{front-waits, waits-front}
+use Rattle.lock.specs.Inside.Facts.{no-ticket, front-waits, waits-front}
 use Rattle.lock.specs.Inside.Keeps.{keeps}
-use Rattle.lock.specs.Inside.Laws.{turn-slot, ticket-one, look-served, look-called, owning-cells}
+use Rattle.lock.specs.Inside.Laws.{turn-slot, turn-early, ticket-given, ticket-one, look-served, look-called, owning-cells}
 
 -- ---- of any lock
 
@@ -116,17 +116,17 @@ registers-with l x pass e = clash (cc)
 registers-with l x leave e = clash (cc)
 registers-with l x try e = clash (cc)
 
--- who hands over waits neither before nor after
-hands-stand : {N : ℕ} {l : Lock} {x : Stand} {w : ℕ} {op : Op} → Can N l x w op → handsOver op ≡ 1 → (t : ℕ)
-    → (x ≢ waiting t) × (standAfter l op ≢ waiting t)
-hands-stand (can-take e) h t = absurd (omega arith)
-hands-stand (can-register u e) h t = absurd (omega arith)
-hands-stand (can-own u e q) h t = absurd (omega arith)
-hands-stand (can-receive u j e q) h t = absurd (omega arith)
-hands-stand (can-fill u j e f) h t = absurd (omega arith)
-hands-stand (can-pass e) h t = (λ z. clash (cc), λ z. clash (cc))
-hands-stand (can-leave e) h t = (λ z. clash (cc), λ z. clash (cc))
-hands-stand (can-try e f) h t = absurd (omega arith)
+-- who hands over owns, and waits with no ticket after it
+pub hands-stand : {N : ℕ} {l : Lock} {x : Stand} {w : ℕ} {op : Op} → Can N l x w op → handsOver op ≡ 1
+    → Owner x × ((t : ℕ) → standAfter l op ≢ waiting t)
+hands-stand (can-take e) h = absurd (omega arith)
+hands-stand (can-register u e) h = absurd (omega arith)
+hands-stand (can-own u e q) h = absurd (omega arith)
+hands-stand (can-receive u j e q) h = absurd (omega arith)
+hands-stand (can-fill u j e f) h = absurd (omega arith)
+hands-stand (can-pass e) h = (inr e, λ t z. clash (cc))
+hands-stand (can-leave e) h = (inl e, λ t z. clash (cc))
+hands-stand (can-try e f) h = absurd (omega arith)
 
 -- ---- of a lock that was kept
 
@@ -134,6 +134,21 @@ module _ {W N : ℕ} {l : Lock} {st : ℕ → Stand} (i : Inv W N l st) where
   pub turn-after : (w : ℕ) (op : Op) (t : ℕ) → N ≤ t → (turn N (after N l w op) t ≡ true) ↔ (t < l .tail + handsOver op)
   turn-after w op t h =
       rw (← (ends-after N l w op) .1) (turn-slot N (after N l w op) (slots-after N l w op (i .slots)) t h)
+
+  -- the front waiter is the worker whose turn comes by a hand-over
+  pub front-turn : (w : ℕ) (op : Op) → handsOver op ≡ 1 → (v : ℕ)
+      → (front N l ≡ some v)
+      ↔ ((v < W) × (t : ℕ) × (st v ≡ waiting t) × (turn N l t ≡ false) × (turn N (after N l w op) t ≡ true))
+  front-turn w op one v = (
+    λ f.
+        let (h, e) = front-waits i v f in
+        let given = (ticket-given i v (l .tail) (inr e)) .0 in
+        (h, l .tail, e, (turn-early i (l .tail) given) .1 (omega arith), (turn-after w op (l .tail) given) .1 (omega arith)),
+    λ (h, t, e, early, comes).
+        let given = (ticket-given i v t (inr e)) .0 in
+        let z : t ≡ l .tail = omega (arith, (turn-early i t given) .0 early, (turn-after w op t given) .0 comes) in
+        waits-front i v (e ∙ ap waiting z),
+  )
 
   -- the front waiter can do nothing but look
   waiter-still : (v : ℕ) → st v ≡ waiting (l .tail) → {op : Op} → Can N l (st v) v op → ⊥
@@ -172,12 +187,12 @@ module _ {W N : ℕ} {l : Lock} {st : ℕ → Stand} (i : Inv W N l st) where
     pub front-handed : handsOver op ≡ 1 → (v : ℕ) → (front N (after N l w op) ≡ some v) ↔ ((v < W) × (st v ≡ waiting (suc (l .tail))))
     front-handed one v =
         let tail : (after N l w op) .tail ≡ suc (l .tail) = omega (arith, one, (ends-after N l w op) .1) in
-        let (before, now) = hands-stand can one (suc (l .tail)) in
+        let (owner, now) = hands-stand can one in
         let still : v ≢ w → upd st w (standAfter l op) v ≡ st v = upd-other st w (standAfter l op) v in
         let there : upd st w (standAfter l op) v ≡ waiting (suc (l .tail)) → v ≢ w =
-        λ q z. now (sym (upd-same st w (standAfter l op)) ∙ ap (upd st w (standAfter l op)) (sym z) ∙ q) in (
+        λ q z. now (suc (l .tail)) (sym (upd-same st w (standAfter l op)) ∙ ap (upd st w (standAfter l op)) (sym z) ∙ q) in (
           λ f. let (h, q) = front-waits next v f in let e = q ∙ ap waiting tail in (h, sym (still (there e)) ∙ e),
-          λ (h, q). waits-front next v (still (λ z. before (ap st (sym z) ∙ q)) ∙ q ∙ ap waiting (sym tail)),
+          λ (h, q). waits-front next v (still (λ z. no-ticket owner (inr (ap st (sym z) ∙ q))) ∙ q ∙ ap waiting (sym tail)),
         )
 
   pub front-registered : (w : ℕ) → w < W → st w ≡ taken (l .tail) → front N (after N l w (register (l .tail))) ≡ some w

@@ -5,7 +5,7 @@ use mathlib.Core.Bool.{true, false}
 use mathlib.Core.Option.{Option, none, some}
 use Prim.Native.Nat.{ℕ, suc, _+_, _-_, _%_, _≤_, _<_}
 use native.Mathlib.Omega.{arith}
-use borrow.Author.Tests.{leb-true, le-leb, eqb-true, eqb-false, eq-eqb, ne-eqb}
+use borrow.Author.Tests.{leb-true, leb-false, le-leb, lt-leb, eqb-true, eqb-false, eq-eqb, ne-eqb}
 use Rattle.runs.specs.Update.{same, order, clash}
 use Rattle.lock.specs.Lock.{Lock, start, turn, distance, front, isFree, notYet, receives, owns, look}
 use Rattle.lock.specs.History.{Stand, out, taken, waiting, owning, serving, Holds, Owner, Served, Due, Called, InCell}
@@ -103,6 +103,16 @@ module _ {W N : ℕ} {l : Lock} {st : ℕ → Stand} (i : Inv W N l st) where
   -- a ticket's turn has come exactly when it is below the tail
   pub turn-below : (t : ℕ) → N ≤ t → (turn N l t ≡ true) ↔ (t < l .tail)
   turn-below t h = turn-slot N l (i .slots) t h
+
+  pub turn-early : (t : ℕ) → N ≤ t → (turn N l t ≡ false) ↔ (l .tail ≤ t)
+  unfolding turn
+  turn-early t h = (
+    λ e.
+        ⊎-elim (λ (k : t < l .tail). absurd (omega (arith, i .slots .come t h k, leb-false t (l .wait (t % N)) e)))
+        (λ (k : l .tail ≤ t). k)
+        (order t (l .tail)),
+    λ k. lt-leb t (l .wait (t % N)) (omega (arith, i .slots .below (t % N))),
+  )
 
   -- the tail was `from` and `hands` hand-overs have come since: it has come exactly when these are at least the ticket's distance then
   pub turn-hands : (t from hands : ℕ) → N ≤ t → l .tail ≡ from + hands → (turn N l t ≡ true) ↔ (suc t - from ≤ hands)

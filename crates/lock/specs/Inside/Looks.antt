@@ -1,11 +1,12 @@
 -- What a look and the search for a front waiter come to, by the numbers that they compare.
 use mathlib.Core.Path.{_≡_, refl}
-use mathlib.Core.Logic.{_⊎_, inl, inr, _≢_}
+use mathlib.Core.Logic.{_⊎_, inl, inr, ⊎-elim, _≢_}
 use mathlib.Core.Option.{Option, none, some}
-use Prim.Native.Nat.{ℕ, _%_, _≤_, _<_}
+use Prim.Native.Nat.{ℕ, _+_, _%_, _≤_, _<_}
 use native.Mathlib.Omega.{arith}
 use borrow.Author.Tests.{le-leb, lt-leb, eq-eqb, ne-eqb}
 use Rattle.runs.specs.Update.{same, order}
+use Rattle.runs.specs.Near.{near-mod}
 use Rattle.lock.specs.Lock.{Lock, turn, join, workerIn, front, Look, notYet, receives, owns, look}
 
 module _ (N : ℕ) (l : Lock) (t w : ℕ) where
@@ -43,6 +44,15 @@ module _ (N : ℕ) (l : Lock) where
   pub front-some : l .tail ≤ l .registration (l .tail % N) → front N l ≡ some (workerIn (l .registration (l .tail % N)) (l .tail))
   unfolding front
   front-some h = rw (le-leb, front)
+
+  -- a registration of an earlier lap is below the tail
+  pub front-lap : (t v : ℕ) → t < l .tail → t % N ≡ l .tail % N → v < N → l .registration (l .tail % N) ≡ join t v → front N l ≡ none
+  unfolding join
+  front-lap t v old slot below e =
+      front-none
+      (⊎-elim (λ (h : l .tail < t + N). absurd (omega (arith, near-mod N t (l .tail) slot (omega arith) h)))
+      (λ (h : t + N ≤ l .tail). omega arith)
+      (order (l .tail) (t + N)))
 
   abbrev pub Fronted : Option ℕ → Type 0
   Fronted none = l .registration (l .tail % N) < l .tail

@@ -14,7 +14,7 @@ use Rattle.lock.specs.Lock as L
 use Rattle.lock.specs.History as H
 use Rattle.lock.specs.Promise as Promise
 use Rattle.machine.specs.State.{Setup, Purpose, forServing, forAdding, Place, idle, trying, registering, looking, draining, serving, handing, leaving, State}
-use Rattle.machine.specs.Event.{Event, triesAndOwns, takesTicket, registers, owns, handsOver}
+use Rattle.machine.specs.Event.{Event, triesAndOwns, takesTicket, registers, owns, handsOver, handedBy}
 use Rattle.machine.specs.Step.{apply, afterDraining, nextDrain}
 use Rattle.machine.specs.Whereabouts.{lockStand}
 use Rattle.machine.specs.View.{AtRest, AllCreated, Does}
@@ -161,9 +161,9 @@ module _ (c : Setup) (playable : Playable c) (s : State) (i : Inv c s) (v : ℕ)
       let other : w ≢ v = λ z. let y : s .place w ≡ s .place v = ap (s .place) z in clash (cc) in (
         w,
         b,
-        rw (place-other c s v (handsOver n) w other, at) (
-          omega (arith, tail-raised c s v (handsOver n) refl),
-          ap (λ f. f w) ((cells-kept c s v (handsOver n) refl) .0) ∙ ticket,
+        rw (place-other c s v (handsOver n (handedBy c s v)) w other, at) (
+          omega (arith, tail-raised c s v (handsOver n (handedBy c s v)) refl),
+          ap (λ f. f w) ((cells-kept c s v (handsOver n (handedBy c s v)) refl) .0) ∙ ticket,
         ),
       )
   fill-step (quiet-leave p) k h = clash (cc)

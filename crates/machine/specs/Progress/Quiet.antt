@@ -16,7 +16,7 @@ use Rattle.tasks.specs.Playing.{by}
 use Rattle.tasks.specs.Promise as Tasks
 use Rattle.tasks.specs.Promise.{workLeft, toGive, totalCost, total}
 use Rattle.machine.specs.State.{Setup, Purpose, trying, registering, looking, draining, serving, handing, leaving, State, start}
-use Rattle.machine.specs.Event.{Event, minds, pushes, findsFull, triesAndOwns, triesInVain, takesTicket, registers, waits, receives, owns, drains, fills, takes, takesNone, handsOver, leaves}
+use Rattle.machine.specs.Event.{Event, minds, pushes, findsFull, triesAndOwns, triesInVain, takesTicket, registers, waits, receives, owns, drains, fills, takes, takesNone, handsOver, leaves, handedBy}
 use Rattle.machine.specs.Step.{apply, lockOp, taskOp}
 use Rattle.machine.specs.Trace.{byLock}
 use Rattle.machine.specs.View.{AtRest, AllCreated, Does, does-mind, does-push, does-find-full, does-win, does-fail, does-take-ticket, does-register, does-wait, does-receive, does-own, does-drain, does-fill, does-take, does-take-none, does-hand-over, does-leave}
@@ -48,8 +48,8 @@ drained s (drains p k) = length (s .queue k)
 drained s (fills n v i is) = 0
 drained s (takes i is) = 0
 drained s takesNone = 0
-drained s (handsOver n) = 0
-drained s leaves = 0
+drained s (handsOver n o) = 0
+drained s (leaves o) = 0
 
 -- what an event takes of it at least
 abbrev pub gain : State → Event → ℕ
@@ -100,8 +100,8 @@ pub data Quiet (c : Setup) (s : State) (w : ℕ) : Event → Type 0 where
   quiet-own : (t : ℕ) → s .place w ≡ looking t → L.look (c .slots) (s .lock) t w ≡ L.owns → Quiet c s w (owns t)
   quiet-drain : (p : Purpose) (k : ℕ) → s .place w ≡ draining p k → s .queue k ≡ [] → Quiet c s w (drains p k)
   quiet-none : (n : ℕ) → s .place w ≡ serving n → s .readyList ≡ [] → Quiet c s w takesNone
-  quiet-hand : (n : ℕ) → s .place w ≡ handing n → Quiet c s w (handsOver n)
-  quiet-leave : s .place w ≡ leaving → Quiet c s w leaves
+  quiet-hand : (n : ℕ) → s .place w ≡ handing n → Quiet c s w (handsOver n (handedBy c s w))
+  quiet-leave : s .place w ≡ leaving → Quiet c s w (leaves (handedBy c s w))
 
 module _ (c : Setup) (s : State) (w : ℕ) where
   pub gains-or-quiet : {e : Event} → Does c s w e → (0 < gain s e) ⊎ Quiet c s w e
@@ -156,5 +156,5 @@ module _ (c : Setup) (s : State) (w : ℕ) where
         cells = refl;
       }
   unmoved (quiet-none n p q) = record { tasks = refl; stand = refl; queue = refl; readyList = refl; cells = refl }
-  unmoved (quiet-hand n p) = record { tasks = refl; stand = refl; queue = refl; readyList = refl; cells = cells-of (handsOver n) refl }
-  unmoved (quiet-leave p) = record { tasks = refl; stand = refl; queue = refl; readyList = refl; cells = cells-of leaves refl }
+  unmoved (quiet-hand n p) = record { tasks = refl; stand = refl; queue = refl; readyList = refl; cells = cells-of (handsOver n (handedBy c s w)) refl }
+  unmoved (quiet-leave p) = record { tasks = refl; stand = refl; queue = refl; readyList = refl; cells = cells-of (leaves (handedBy c s w)) refl }

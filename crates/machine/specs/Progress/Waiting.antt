@@ -18,7 +18,7 @@ use Rattle.lock.specs.Promise as Promise
 use Rattle.tasks.specs.Accesses.{taskAt}
 use Rattle.tasks.specs.Tasks as T
 use Rattle.machine.specs.State.{Setup, Purpose, forServing, forAdding, Place, idle, trying, registering, looking, draining, serving, handing, leaving, State, picked}
-use Rattle.machine.specs.Event.{Event, registers, receives, owns, fills, handsOver, leaves, event}
+use Rattle.machine.specs.Event.{Event, registers, receives, owns, fills, handsOver, leaves, handedBy, event}
 use Rattle.machine.specs.Events.{event-wait, event-receive, event-own}
 use Rattle.machine.specs.Step.{apply, step, finished, pick, afterDraining, nextDrain}
 use Rattle.machine.specs.Whereabouts.{lockStand}
@@ -150,8 +150,8 @@ module _ (c : Setup) (s : State) (i : Locked c (s .lock) (s .place)) (d : Drains
       owner-near _ (serving n) (handing n) p (upd-same (s .place) v _) (tail-kept c s v (fills n u j js) refl) (inr refl) (omega arith)
   leader-step (view.does-take n j js p q) k = owner-near _ (serving n) leaving p (upd-same (s .place) v _) refl (inl refl) (omega arith)
   leader-step (view.does-take-none n p q) k = owner-near _ (serving n) leaving p (upd-same (s .place) v _) refl (inl refl) (omega arith)
-  leader-step (view.does-hand-over n p) k = handing-over (tail-raised c s v (handsOver n) refl) (rw p (omega arith))
-  leader-step (view.does-leave p) k = handing-over (tail-raised c s v leaves refl) (rw p (omega arith))
+  leader-step (view.does-hand-over n p) k = handing-over (tail-raised c s v (handsOver n (handedBy c s v)) refl) (rw p (omega arith))
+  leader-step (view.does-leave p) k = handing-over (tail-raised c s v (leaves (handedBy c s v)) refl) (rw p (omega arith))
 
 -- ---- the waiting worker
 

@@ -3,17 +3,18 @@
 use Prim.Native.Nat.{ℕ, _-_, _≤_, _<_}
 use native.Mathlib.Omega.{arith}
 use mathlib.Core.Path.{_≡_, refl, ap, _∙_}
-use mathlib.Core.Logic.{_⊎_, inl, inr, _≢_}
+use mathlib.Core.Logic.{_⊎_, inl, inr, ⊎-elim, _≢_}
 use mathlib.Core.Bool.{false}
 use mathlib.Core.List.{List, [], _∷_}
 use lib.ListN.{length}
+use lib.Dec.{eqb}
 use borrow.Author.Tests.{eq-eqb, ne-eqb}
 use Rattle.runs.specs.Update.{same}
-use Rattle.runs.specs.Sums.{sum-const, le-sum, pos-sum}
-use Rattle.runs.specs.Counts.{is, is-same, is-other, count, count-nil, count-cons}
+use Rattle.runs.specs.Sums.{sum-const, le-sum, two-sum, pos-sum}
+use Rattle.runs.specs.Counts.{one-le, is, is-same, is-other, count, count-nil, count-cons}
 use Rattle.lock.specs.History as LH
 use Rattle.tasks.specs.Tasks as T
-use Rattle.tasks.specs.Tasks.{Message, held, isHeld, given}
+use Rattle.tasks.specs.Tasks.{Message, held, stage, isHeld, given}
 use Rattle.tasks.specs.Playing.{hasNotice}
 use Rattle.tasks.specs.Promise as Promise
 use Rattle.machine.specs.State.{Setup, Purpose, forServing, forAdding, Place, idle, trying, registering, looking, draining, serving, handing, leaving, State, start}
@@ -93,21 +94,37 @@ module _ (c : Setup) (s : State) (h : Device c s) where
   pub first-given : Tasked c (s .tasks) (s .stand) → (j : ℕ) (js : List ℕ) → s .readyList ≡ j ∷ js → given (c .workers) (s .tasks) j ≡ 1
   first-given v j js e = omega (arith, h .stored j, ap (count j) e ∙ count-cons j j js, is-same j j refl, Promise.given-le v j)
 
-  -- a task in the cell of a worker that waits with the ticket beside it is held
+  -- a task in the cell of a worker that waits with the ticket beside it counts there
+  counts-at : (w t j : ℕ) → s .place w ≡ looking t → s .lock .cellTicket w ≡ t → s .lock .cellTask w ≡ j
+      → inCell j (lockStand (s .place w)) (s .lock .cellTicket w) (s .lock .cellTask w) ≡ 1
+  counts-at w t j p e d =
+      ap (λ x. inCell j (lockStand x) (s .lock .cellTicket w) (s .lock .cellTask w)) p
+      ∙ boxed-same j t (s .lock .cellTicket w) (s .lock .cellTask w) e ∙ is-same (s .lock .cellTask w) j d
+
+  -- it is held
   pub celled : (w t j : ℕ) → w < c .workers → s .place w ≡ looking t → s .lock .cellTicket w ≡ t → s .lock .cellTask w ≡ j
       → s .tasks .status j ≡ held
   celled w t j l p e d =
       let cell : ℕ → ℕ = λ v. inCell j (lockStand (s .place v)) (s .lock .cellTicket v) (s .lock .cellTask v) in
-      let found : 0 < isHeld (s .tasks .status j) =
-      omega (
+      Promise.is-held (s .tasks .status j) (omega (arith, h .boxes j, le-sum (c .workers) cell w l, counts-at w t j p e d))
+
+  -- and in no other cell
+  pub celled-once : (u v t r j : ℕ) → u < c .workers → v < c .workers
+      → s .place u ≡ looking t → s .lock .cellTicket u ≡ t → s .lock .cellTask u ≡ j
+      → s .place v ≡ looking r → s .lock .cellTicket v ≡ r → s .lock .cellTask v ≡ j → u ≡ v
+  celled-once u v t r j a b p e d q f g =
+      let cell : ℕ → ℕ = λ x. inCell j (lockStand (s .place x)) (s .lock .cellTicket x) (s .lock .cellTask x) in
+      ⊎-elim
+      (λ (z : u ≡ v). z)
+      (λ n. absurd (omega (
         arith,
         h .boxes j,
-        le-sum (c .workers) cell w l,
-        ap (λ x. inCell j (lockStand x) (s .lock .cellTicket w) (s .lock .cellTask w)) p,
-        boxed-same j t (s .lock .cellTicket w) (s .lock .cellTask w) e,
-        is-same (s .lock .cellTask w) j d,
-      ) in
-      Promise.is-held (s .tasks .status j) found
+        one-le (eqb (stage (s .tasks .status j)) (stage held)),
+        two-sum (c .workers) cell u v a b n,
+        counts-at u t j p e d,
+        counts-at v r j q f g,
+      )))
+      (same u v)
 
   pub held-at : (i : ℕ) → s .tasks .status i ≡ held
       → (w : ℕ) × (w < c .workers) × (t : ℕ) × (s .place w ≡ looking t) × (s .lock .cellTicket w ≡ t) × (s .lock .cellTask w ≡ i)

@@ -22,7 +22,7 @@ use Rattle.tasks.specs.Playing as P
 use Rattle.tasks.specs.Playing.{by, hasNotice}
 use Rattle.tasks.specs.Promise as Promise
 use Rattle.machine.specs.State.{Setup, Purpose, forServing, forAdding, Place, idle, trying, registering, looking, draining, serving, handing, leaving, State}
-use Rattle.machine.specs.Event.{Event, triesAndOwns, takesTicket, registers, receives, owns, handsOver, leaves, fills}
+use Rattle.machine.specs.Event.{Event, triesAndOwns, takesTicket, registers, receives, owns, handsOver, leaves, fills, handedBy}
 use Rattle.machine.specs.Step.{apply, lockOp, taskOp, effect, afterDraining, nextDrain}
 use Rattle.machine.specs.Trace.{byLock}
 use Rattle.machine.specs.View as view
@@ -208,8 +208,8 @@ module _ (c : Setup) (s : State) (locked : Locked c (s .lock) (s .place)) (v : T
   boxes-after (view.does-fill n u j js p q f l) i = omega (arith, fills-box n u j js p (front-unfilled n u p f) i)
   boxes-after (view.does-take n j js p q) i = omega (arith, box i (serving n) leaving p)
   boxes-after (view.does-take-none n p q) i = omega (arith, box i (serving n) leaving p)
-  boxes-after (view.does-hand-over n p) i = omega (arith, same-cells (handsOver n) refl i, box i (handing n) (serving (suc n)) p)
-  boxes-after (view.does-leave p) i = omega (arith, same-cells leaves refl i, box i leaving idle p)
+  boxes-after (view.does-hand-over n p) i = omega (arith, same-cells (handsOver n (handedBy c s w)) refl i, box i (handing n) (serving (suc n)) p)
+  boxes-after (view.does-leave p) i = omega (arith, same-cells (leaves (handedBy c s w)) refl i, box i leaving idle p)
 
   -- ---- what a worker has at each place
 

@@ -1,17 +1,46 @@
 -- Proofs along a list of picks: what every taken pick adds, from the first state to the last.
-use Prim.Native.Nat.{ℕ, suc, _+_, _≤_, _<_}
+use Prim.Native.Nat.{ℕ, zero, suc, _+_, _≤_, _<_}
 use native.Mathlib.Omega.{arith}
-use mathlib.Core.Path.{_≡_, refl}
+use mathlib.Core.Path.{_≡_, refl, ap}
 use mathlib.Core.Logic.{_⊎_}
 use mathlib.Core.Bool.{true, false}
-use mathlib.Core.List.{List}
-use lib.ListN.{length}
+use mathlib.Core.List.{List, [], _∷_, _++_}
+use mathlib.Core.Option.{some}
+use lib.ListN.{length, getElem?}
+use Rattle.runs.specs.Update.{clash}
 use Rattle.runs.specs.Picks.{Picks, run}
 use Rattle.runs.specs.Traces as Traces
 use Rattle.machine.specs.State.{Setup, State}
 use Rattle.machine.specs.Event.{Event, event}
 use Rattle.machine.specs.Step.{step, finished, pick}
-use Rattle.machine.specs.Trace.{trace, tally}
+use Rattle.machine.specs.Trace.{Happening, trace, tally}
+
+-- ---- a list of what happened with one more at its end
+
+abbrev pub more : List Happening → ℕ → Event → List Happening
+more hs w e = hs ++ record { by = w; what = e } ∷ []
+
+module _ (w : ℕ) (e : Event) where
+  pub tally-more : (f : Event → ℕ) (hs : List Happening) → tally f (more hs w e) ≡ tally f hs + f e
+  unfolding Traces.tally
+  tally-more f [] = omega arith
+  tally-more f (h ∷ hs) = omega (arith, tally-more f hs)
+
+  pub length-more : (hs : List Happening) → length (more hs w e) ≡ suc (length hs)
+  length-more [] = refl
+  length-more (h ∷ hs) = ap suc (length-more hs)
+
+  -- what is there stays in its place, and the new one has the last
+  pub at-more : (hs : List Happening) (k : ℕ) (x : Happening) → getElem? hs k ≡ some x → getElem? (more hs w e) k ≡ some x
+  at-more [] k x q = clash (cc)
+  at-more (h ∷ hs) zero x q = q
+  at-more (h ∷ hs) (suc k) x q = at-more hs k x q
+
+  pub at-last : (hs : List Happening) → getElem? (more hs w e) (length hs) ≡ some (record { by = w; what = e })
+  at-last [] = refl
+  at-last (h ∷ hs) = at-last hs
+
+-- ---- along a list of picks
 
 module _ (c : Setup) where
   pub pick-finished : (s : State) (w : ℕ) → finished c s ≡ true → pick c s w ≡ s

@@ -14,14 +14,14 @@ use Rattle.orders.proofs.play_line.Statement.{statement}
 use Rattle.orders.proofs.play_line.Tie as tie
 
 abbrev Inv-loop : tie.InvT-loop
-Inv-loop end wait₀ registrations₀ tickets₀ cells₀ ready₀ rows₀ accesses₀ store₀ n₀ line₀
-    wait registrations tickets cells ready rows accesses store n line =
-    Goes end (memory n₀ wait₀ registrations₀ tickets₀ cells₀ ready₀ rows₀ accesses₀) store₀ line₀
-    (memory n wait registrations tickets cells ready rows accesses) store line
+Inv-loop end wait₀ registrations₀ tickets₀ cells₀ device₀ rows₀ accesses₀ store₀ n₀ line₀
+    wait registrations tickets cells device rows accesses store n line =
+    Goes end (memory n₀ wait₀ registrations₀ tickets₀ cells₀ device₀ rows₀ accesses₀) store₀ line₀
+    (memory n wait registrations tickets cells device rows accesses) store line
 
 abbrev μ-loop : tie.MeasureT-loop
-μ-loop end wait₀ registrations₀ tickets₀ cells₀ ready₀ rows₀ accesses₀ store₀ n₀ line₀
-    wait registrations tickets cells ready rows accesses store n line =
+μ-loop end wait₀ registrations₀ tickets₀ cells₀ device₀ rows₀ accesses₀ store₀ n₀ line₀
+    wait registrations tickets cells device rows accesses store n line =
     end - n .picks
 
 -- places of the code, from a later one back to an earlier one
@@ -46,7 +46,7 @@ pick-over c =
 abbrev held : tie.At-loop Inv-loop μ-loop → Memory
 held c =
     let x = c .loop in
-    memory (x .n) (x .wait) (x .registrations) (x .tickets) (x .cells) (x .ready) (x .rows) (x .accesses)
+    memory (x .n) (x .wait) (x .registrations) (x .tickets) (x .cells) (x .device) (x .rows) (x .accesses)
 
 -- the state there, from which the rest of the line can be played
 able : (c : tie.At-loop Inv-loop μ-loop) → LineAble (begun c .args .end) (c .loop .line) (held c) (c .loop .store)
@@ -123,7 +123,7 @@ loop-again c =
       registrations = k .1 .0;
       tickets = k .1 .1 .0;
       cells = k .1 .1 .1 .0;
-      ready = k .1 .1 .1 .1 .0;
+      device = k .1 .1 .1 .1 .0;
       rows = k .1 .1 .1 .1 .1 .0;
       accesses = k .1 .1 .1 .1 .1 .1 .0;
       size = k .1 .1 .1 .1 .1 .1 .1 .0;

@@ -12,14 +12,14 @@ use Rattle.orders.proofs.play_orders.Statement.{statement}
 use Rattle.orders.proofs.play_orders.Tie as tie
 
 abbrev Inv-loop : tie.InvT-loop
-Inv-loop lines orders limit wait₀ registrations₀ tickets₀ cells₀ ready₀ rows₀ accesses₀ store₀ n₀ i₀
-    wait registrations tickets cells ready rows accesses store n i =
-    Plays lines orders limit (memory n₀ wait₀ registrations₀ tickets₀ cells₀ ready₀ rows₀ accesses₀) store₀
-    (memory n wait registrations tickets cells ready rows accesses) store i
+Inv-loop lines orders limit wait₀ registrations₀ tickets₀ cells₀ device₀ rows₀ accesses₀ store₀ n₀ i₀
+    wait registrations tickets cells device rows accesses store n i =
+    Plays lines orders limit (memory n₀ wait₀ registrations₀ tickets₀ cells₀ device₀ rows₀ accesses₀) store₀
+    (memory n wait registrations tickets cells device rows accesses) store i
 
 abbrev μ-loop : tie.MeasureT-loop
-μ-loop lines orders limit wait₀ registrations₀ tickets₀ cells₀ ready₀ rows₀ accesses₀ store₀ n₀ i₀
-    wait registrations tickets cells ready rows accesses store n i =
+μ-loop lines orders limit wait₀ registrations₀ tickets₀ cells₀ device₀ rows₀ accesses₀ store₀ n₀ i₀
+    wait registrations tickets cells device rows accesses store n i =
     orders - i
 
 -- places of the code, from a later one back to an earlier one
@@ -41,7 +41,7 @@ line-over c =
 abbrev given : tie.Start Inv-loop μ-loop → Memory
 given s =
     let x = s .args in
-    memory (x .begin) (x .wait .now) (x .registrations .now) (x .tickets .now) (x .cells .now) (x .ready .now)
+    memory (x .begin) (x .wait .now) (x .registrations .now) (x .tickets .now) (x .cells .now) (x .device .now)
     (x .rows .now) (x .accesses .now)
 
 -- and the memory and the store once a line is played
@@ -85,7 +85,7 @@ plays c =
       registrations = k .1 .0;
       tickets = k .1 .1 .0;
       cells = k .1 .1 .1 .0;
-      ready = k .1 .1 .1 .1 .0;
+      device = k .1 .1 .1 .1 .0;
       rows = k .1 .1 .1 .1 .1 .0;
       accesses = k .1 .1 .1 .1 .1 .1 .0;
       size = k .1 .1 .1 .1 .1 .1 .1 .0;
@@ -134,7 +134,7 @@ same-length-4 : tie.Need-same-length-4 Inv-loop μ-loop
 same-length-4 c = plays (line-over (c .before)) .kept .cells
 
 same-length-5 : tie.Need-same-length-5 Inv-loop μ-loop
-same-length-5 c = plays (line-over (c .before)) .kept .ready
+same-length-5 c = plays (line-over (c .before)) .kept .device
 
 same-length-6 : tie.Need-same-length-6 Inv-loop μ-loop
 same-length-6 c = plays (line-over (c .before)) .kept .rows
@@ -164,7 +164,7 @@ same-length-12 : tie.Need-same-length-12 Inv-loop μ-loop
 same-length-12 c = plays (line-over (c .before .before .before)) .kept .cells
 
 same-length-13 : tie.Need-same-length-13 Inv-loop μ-loop
-same-length-13 c = plays (line-over (c .before .before .before)) .kept .ready
+same-length-13 c = plays (line-over (c .before .before .before)) .kept .device
 
 same-length-14 : tie.Need-same-length-14 Inv-loop μ-loop
 same-length-14 c = plays (line-over (c .before .before .before)) .kept .rows
@@ -205,7 +205,7 @@ same-length-20 : tie.Need-same-length-20 Inv-loop μ-loop
 same-length-20 c = c .before .loop .inv .kept .cells
 
 same-length-21 : tie.Need-same-length-21 Inv-loop μ-loop
-same-length-21 c = c .before .loop .inv .kept .ready
+same-length-21 c = c .before .loop .inv .kept .device
 
 same-length-22 : tie.Need-same-length-22 Inv-loop μ-loop
 same-length-22 c = c .before .loop .inv .kept .rows

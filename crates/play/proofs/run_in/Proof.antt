@@ -26,7 +26,7 @@ play-orders-requires c κs =
     let start = laying .before .before .before .before .before .before .before .before .before .before .before in
     let lengths = start .pre .1 .0 in
     let (p, e, says) = start .pre .1 .1 in
-    let made = laid .set-up .ensures _ p _ _ e (says .tasks) (start .pre .0 .0) (start .pre .0 .1) in
+    let made = laid .set-up .ensures _ p _ _ e (says .tasks) (start .pre .0 .0) (start .pre .0 .1) (start .pre .1 .0 .8) in
     record {
       room = start .pre .0 .0;
       long = record {
@@ -34,7 +34,7 @@ play-orders-requires c κs =
         registrations = laid .set-up .kept .1 .1 .1 .1 .0 ∙ lengths .1;
         tickets = laid .set-up .kept .1 .1 .1 .1 .1 .0 ∙ lengths .2;
         cells = laid .set-up .kept .1 .1 .1 .1 .1 .1 .0 ∙ lengths .3;
-        ready = lengths .4;
+        device = lengths .4;
         tasks = record {
           rows = laid .set-up .kept .1 .1 .1 .1 .1 .1 .1 .0 ∙ lengths .5;
           accesses = laid .set-up .kept .1 .1 .1 .1 .1 .1 .1 .1 .0 ∙ lengths .6;
@@ -50,7 +50,7 @@ play-orders-requires c κs =
 
 answer-of-requires : tie.Need-answer-of-requires
 answer-of-requires c κs =
-    let answering = c .before .before .before .before .before .before .before .before .before in
+    let answering = c .before .before .before .before .before .before .before .before .before .before in
     let end = answering .before .before .before .before .before .before .before .before .before .before .before in
     let playing = end .before .before .before .before .before .before .before .before .before .before .before .before in
     let laid = playing .before .before .before .before .before .before .before .before .before .before .before in
@@ -58,19 +58,20 @@ answer-of-requires c κs =
     let start = laying .before .before .before .before .before .before .before .before .before .before .before in
     let lengths = start .pre .1 .0 in
     let (p, e, says) = start .pre .1 .1 in
-    let made = laid .set-up .ensures _ p _ _ e (says .tasks) (start .pre .0 .0) (start .pre .0 .1) in
+    let made = laid .set-up .ensures _ p _ _ e (says .tasks) (start .pre .0 .0) (start .pre .0 .1) (start .pre .1 .0 .8) in
     let held = end .play-orders .ensures .0 _ p e (says .count) (says .orders) (made .0) in (
       (
         omega (arith, end .play-orders .kept .1 .1 .1 .1 .1 .1 .1 .1 .1 .1 .1 .0, start .pre .0 .0),
+        end .play-orders .kept .1 .1 .1 .1 .1 .1 .1 .1 .0 ∙ lengths .4,
         end .play-orders .kept .1 .1 .1 .1 .1 .1 .1 .1 .1 .0 ∙ laid .set-up .kept .1 .1 .1 .1 .1 .1 .1 .0 ∙ lengths .5,
         laid .set-up .kept .1 .1 .1 .1 .1 .1 .1 .1 .1 .0 ∙ lengths .7,
       ),
-      (memory (end .play-orders .result) _ _ _ _ _ [] _, setupOf p, reached p (start .args .limit), sized _ p e, made .1, held),
+      (memory (end .play-orders .result) _ _ _ _ [] [] _, setupOf p, reached p (start .args .limit), sized _ p e, made .1, held),
     )
 
 same-length : tie.Need-same-length
 same-length c =
-    let answering = c .before .before .before .before .before .before .before .before .before .before .before .before in
+    let answering = c .before .before .before .before .before .before .before .before .before .before .before .before .before in
     let end = answering .before .before .before .before .before .before .before .before .before .before .before in
     let playing = end .before .before .before .before .before .before .before .before .before .before .before .before in
     let laid = playing .before .before .before .before .before .before .before .before .before .before .before in
@@ -78,7 +79,7 @@ same-length c =
 
 same-length-2 : tie.Need-same-length-2
 same-length-2 c =
-    let answering = c .before .before .before .before .before .before .before .before .before .before .before .before in
+    let answering = c .before .before .before .before .before .before .before .before .before .before .before .before .before in
     let end = answering .before .before .before .before .before .before .before .before .before .before .before in
     let playing = end .before .before .before .before .before .before .before .before .before .before .before .before in
     let laid = playing .before .before .before .before .before .before .before .before .before .before .before in
@@ -86,7 +87,7 @@ same-length-2 c =
 
 same-length-3 : tie.Need-same-length-3
 same-length-3 c =
-    let answering = c .before .before .before .before .before .before .before .before .before .before .before .before in
+    let answering = c .before .before .before .before .before .before .before .before .before .before .before .before .before in
     let end = answering .before .before .before .before .before .before .before .before .before .before .before in
     let playing = end .before .before .before .before .before .before .before .before .before .before .before .before in
     let laid = playing .before .before .before .before .before .before .before .before .before .before .before in
@@ -94,7 +95,7 @@ same-length-3 c =
 
 same-length-4 : tie.Need-same-length-4
 same-length-4 c =
-    let answering = c .before .before .before .before .before .before .before .before .before .before .before .before in
+    let answering = c .before .before .before .before .before .before .before .before .before .before .before .before .before in
     let end = answering .before .before .before .before .before .before .before .before .before .before .before in
     let playing = end .before .before .before .before .before .before .before .before .before .before .before .before in
     let laid = playing .before .before .before .before .before .before .before .before .before .before .before in
@@ -105,7 +106,7 @@ same-length-5 c = search needs
 
 same-length-6 : tie.Need-same-length-6
 same-length-6 c =
-    let answering = c .before .before .before .before .before .before .before .before .before .before .before .before in
+    let answering = c .before .before .before .before .before .before .before .before .before .before .before .before .before in
     let end = answering .before .before .before .before .before .before .before .before .before .before .before in
     let playing = end .before .before .before .before .before .before .before .before .before .before .before .before in
     let laid = playing .before .before .before .before .before .before .before .before .before .before .before in
@@ -113,7 +114,7 @@ same-length-6 c =
 
 same-length-7 : tie.Need-same-length-7
 same-length-7 c =
-    let answering = c .before .before .before .before .before .before .before .before .before .before .before .before in
+    let answering = c .before .before .before .before .before .before .before .before .before .before .before .before .before in
     let end = answering .before .before .before .before .before .before .before .before .before .before .before in
     let playing = end .before .before .before .before .before .before .before .before .before .before .before .before in
     let laid = playing .before .before .before .before .before .before .before .before .before .before .before in
@@ -121,7 +122,7 @@ same-length-7 c =
 
 same-length-8 : tie.Need-same-length-8
 same-length-8 c =
-    let answering = c .before .before .before .before .before .before .before .before .before .before .before .before in
+    let answering = c .before .before .before .before .before .before .before .before .before .before .before .before .before in
     let end = answering .before .before .before .before .before .before .before .before .before .before .before in
     let playing = end .before .before .before .before .before .before .before .before .before .before .before .before in
     let laid = playing .before .before .before .before .before .before .before .before .before .before .before in
@@ -135,16 +136,16 @@ same-length-10 c = search needs
 
 returns : tie.Need-returns
 returns c =
-    let answering = c .before .before .before .before .before .before .before .before .before .before .before .before in
+    let answering = c .before .before .before .before .before .before .before .before .before .before .before .before .before in
     let end = answering .before .before .before .before .before .before .before .before .before .before .before in
     let playing = end .before .before .before .before .before .before .before .before .before .before .before .before in
     let laid = playing .before .before .before .before .before .before .before .before .before .before .before in
     let laying = laid .before .before .before .before .before .before .before .before .before .before in
     let start = laying .before .before .before .before .before .before .before .before .before .before .before in (
       λ p left e says.
-          let made = laid .set-up .ensures _ p _ _ e (says .tasks) (start .pre .0 .0) (start .pre .0 .1) in
+          let made = laid .set-up .ensures _ p _ _ e (says .tasks) (start .pre .0 .0) (start .pre .0 .1) (start .pre .1 .0 .8) in
           let held = end .play-orders .ensures .0 _ p e (says .count) (says .orders) (made .0) in
-          let m = memory (end .play-orders .result) _ _ _ _ _ [] _ in
+          let m = memory (end .play-orders .result) _ _ _ _ [] [] _ in
           c .before .before .answer-of .ensures m (setupOf p) (reached p (start .args .limit)) left (made .1) held,
       end .play-orders .ensures .1,
     )

@@ -31,7 +31,7 @@ slice-aggregate-run-in-8 c = search needs
 run-in-requires : tie.Need-run-in-requires
 run-in-requires c κs =
     let pre = c .before .before .before .before .before .before .before .before .before .before .before .before .before .before .before .pre in
-    (pre .0, ((refl, refl, refl, refl, refl, refl, refl, refl), pre .1))
+    (pre .0, ((refl, refl, refl, refl, refl, refl, refl, refl, refl), pre .1))
 
 same-length : tie.Need-same-length
 same-length c = search needs

@@ -43,14 +43,14 @@ same-length-7 : tie.Need-same-length-7
 same-length-7 c = search needs
 
 returns : tie.Need-returns
-returns c text p ready store e says long zeros =
+returns c text p device store e says long zeros ungiven =
     let starting = c .before .before .before .before .before .before .before .before .before in
     let laying = starting .before .before .before .before .before .before .before .before .before .before .before in
     let started = starting .start .ensures in
     let laid = laying .lay-out .ensures .1 text p e (says .count) (says .tasks) in
     let few = accepted-well-formed text p e .workers-few in (
       rw (c .fresh .ensures, says .workers, says .count)
-          (starts (setupOf p) few _ _ _ _ _ ready _ _ store long zeros (started .1 .1 .1) (laid .0) (laid .1)),
+          (starts (setupOf p) few _ _ _ _ _ device _ _ store long zeros ungiven (started .1 .1 .1) (laid .0) (laid .1)),
       laid .2,
     )
 

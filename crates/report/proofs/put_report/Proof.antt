@@ -16,13 +16,13 @@ use Rattle.report.proofs.put_report.Statement.{statement}
 use Rattle.report.proofs.put_report.Tie as tie
 
 abbrev Inv-loop : tie.InvT-loop
-Inv-loop summary text tasks labels output₀ n next₀ i₀ output next i =
+Inv-loop summary text tasks labels givers output₀ n next₀ i₀ output next i =
     (i ≤ n) × (length output ≡ length output₀) × (next ≤ outcomeLineSize + taskLineSize * i)
-    × ((c : Setup) (s : State) → Shown c s summary tasks labels text
+    × ((c : Setup) (s : State) → Shown c s summary tasks labels givers text
     → Wrote output₀ next₀ (plain (taskLines c s 0 (take i (c .tasks)))) next output)
 
 abbrev μ-loop : tie.MeasureT-loop
-μ-loop summary text tasks labels output₀ n next₀ i₀ output next i = n - i
+μ-loop summary text tasks labels givers output₀ n next₀ i₀ output next i = n - i
 
 put-outcome-line-requires : tie.Need-put-outcome-line-requires Inv-loop μ-loop
 put-outcome-line-requires c κs = omega arith
@@ -32,12 +32,12 @@ loop-holds c = (omega arith, refl, omega (arith, c .before .before .put-outcome-
 
 put-task-requires : tie.Need-put-task-requires Inv-loop μ-loop
 put-task-requires c κs =
-    let s = c .before .before .before .before .before .before .before .before .before .before .before in
+    let s = c .before .before .before .before .before .before .before .before .before .before .before .before in
     let turn = c .before .before .loop in
     let less = c .before .loop-test .taken in
     let (_, _, shown) = s .pre .1 in
     let short = shown .labels (turn .i) (omega (arith, shown .count)) .short in
-    (s .pre .0 .0, s .pre .0 .1, omega arith, short, omega (arith, turn .inv .2))
+    (s .pre .0 .0, s .pre .0 .1, s .pre .0 .2, omega arith, short, omega (arith, turn .inv .2))
 
 add-i : tie.Need-add-i Inv-loop μ-loop
 add-i c = omega arith

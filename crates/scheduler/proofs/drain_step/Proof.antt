@@ -8,7 +8,7 @@ use Rattle.steps.specs.Layout.{shareSize, numberAt, mostWorkers}
 use Rattle.steps.specs.Memory.{share}
 use Rattle.steps.proofs.Parts.{station-long}
 use Rattle.scheduler.proofs.Lending.{share-at, share-length, station-lent, second-lent, both-shares, both-later}
-use Rattle.scheduler.proofs.Draining.{drained-below, drained-known, drained-few, drained-room}
+use Rattle.scheduler.proofs.Draining.{drained-behind, drained-below, drained-known, drained-few, drained-room}
 use Rattle.scheduler.proofs.Draining.{emptied-stations, emptied-long, drain-acts}
 use borrow.Author.Needs.{needs}
 use Rattle.scheduler.proofs.drain_step.Statement.{statement}
@@ -73,7 +73,7 @@ drain-requires c κs =
     let k = drains s in
     let lent = station-lent store k (below s) (s .pre .0 .0) in (
       ap length lent ∙ station-long (share store k) (share-length store k (below s) (s .pre .0 .0)),
-      long .ready,
+      omega (arith, long .device),
       holds .device .ready-at,
       rw lent (drained-room holds fit (s .pre .0 .2) (drains-is s)),
       rw lent (drained-few holds fit (s .pre .0 .2) (drains-is s)),
@@ -132,6 +132,7 @@ returns c =
           rw (both-shares store k w (below s) few long one (d .drain .kept .0) two (e .drained .kept .0))
           (drain-acts holds fit (s .pre .0 .2) (drains-is s) emptied two (d .drain .last .1 .0) (d .drain .result)
           (rw lent at (d .drain .ensures .1 .1))
+          (drained-behind _ _ _ _ _ (d .drain .ensures .0 .2))
           (λ x q. rw lent2 at (e .drained .ensures setup x q (holds .device .workers)))),
       both-later store k w (below s) few long one (d .drain .kept .0) two (e .drained .kept .0),
     )

@@ -14,7 +14,7 @@ use Rattle.scheduler.proofs.step_own.Tie as tie
 abbrev given : tie.Start → Memory
 given s =
     let x = s .args in
-    memory (x .n) (x .wait .now) (x .registrations .now) (x .tickets .now) (x .cells .now) (x .ready .now) (x .rows .now) (x .accesses .now)
+    memory (x .n) (x .wait .now) (x .registrations .now) (x .tickets .now) (x .cells .now) (x .device .now) (x .rows .now) (x .accesses .now)
 
 slice-read-place : tie.Need-slice-read-place
 slice-read-place c = omega (arith, own-long (c .before .before .before .before .before .before .before .before .before .pre .0))
@@ -45,20 +45,20 @@ look-step-requires c κs =
 
 serve-step-requires : tie.Need-serve-step-requires
 serve-step-requires c κs =
-    let here = c .before .before .before .before .before in
+    let here = c .before .before .before .before .before .before in
     let s = here .before .before .before .before .before .before .before .before .before .before in
     ((given s, s .pre .0), here .match .keys5)
 
 hand-step-requires : tie.Need-hand-step-requires
 hand-step-requires c κs =
-    let here = c .before .before in
+    let here = c .before .before .before .before .before .before in
     let s = here .before .before .before .before .before .before .before .before .before .before in
     ((given s, s .pre .0), here .match .keys6)
 
 leave-step-requires : tie.Need-leave-step-requires
 leave-step-requires c κs =
-    let m = c .before .before .match in
-    let s = c .before .before .before .before .before .before .before .before .before .before .before .before in
+    let m = c .before .before .before .before .before .before .match in
+    let s = c .before .before .before .before .before .before .before .before .before .before .before .before .before .before .before .before in
     let own = s .args .own .now in (
       (given s, s .pre .0),
       leaves-at (getD own placeAt 0) (own-place (s .pre .0))
@@ -144,23 +144,17 @@ same-length-15 c = search needs
 same-length-16 : tie.Need-same-length-16
 same-length-16 c = search needs
 
-returns-5 : tie.Need-returns-5
-returns-5 c =
-    let done = c .before .before .before .before .before .before .before .before in
-    let taken = done .before .before .before .before .before .before .before in
-    done .serve-step .ensures (given (taken .before .before .before .before .before .before .before .before .before))
-
 same-length-17 : tie.Need-same-length-17
 same-length-17 c = search needs
 
+returns-5 : tie.Need-returns-5
+returns-5 c =
+    let done = c .before .before .before .before .before .before .before .before .before .before in
+    let taken = done .before .before .before .before .before .before .before .before in
+    done .serve-step .ensures (given (taken .before .before .before .before .before .before .before .before .before))
+
 same-length-18 : tie.Need-same-length-18
 same-length-18 c = search needs
-
-returns-6 : tie.Need-returns-6
-returns-6 c =
-    let done = c .before .before .before .before in
-    let taken = done .before .before .before .before in
-    done .hand-step .ensures (given (taken .before .before .before .before .before .before .before .before .before))
 
 same-length-19 : tie.Need-same-length-19
 same-length-19 c = search needs
@@ -168,10 +162,43 @@ same-length-19 c = search needs
 same-length-20 : tie.Need-same-length-20
 same-length-20 c = search needs
 
+same-length-21 : tie.Need-same-length-21
+same-length-21 c = search needs
+
+same-length-22 : tie.Need-same-length-22
+same-length-22 c = search needs
+
+same-length-23 : tie.Need-same-length-23
+same-length-23 c = search needs
+
+returns-6 : tie.Need-returns-6
+returns-6 c =
+    let done = c .before .before .before .before .before .before in
+    let taken = done .before .before .before .before .before .before .before .before in
+    done .hand-step .ensures (given (taken .before .before .before .before .before .before .before .before .before))
+
+same-length-24 : tie.Need-same-length-24
+same-length-24 c = search needs
+
+same-length-25 : tie.Need-same-length-25
+same-length-25 c = search needs
+
+same-length-26 : tie.Need-same-length-26
+same-length-26 c = search needs
+
+same-length-27 : tie.Need-same-length-27
+same-length-27 c = search needs
+
+same-length-28 : tie.Need-same-length-28
+same-length-28 c = search needs
+
+same-length-29 : tie.Need-same-length-29
+same-length-29 c = search needs
+
 returns-7 : tie.Need-returns-7
 returns-7 c =
-    let done = c .before .before .before .before in
-    let taken = done .before .before .before .before in
+    let done = c .before .before .before .before .before .before in
+    let taken = done .before .before .before .before .before .before .before .before in
     done .leave-step .ensures (given (taken .before .before .before .before .before .before .before .before .before))
 
 pub step-own-spec : {M : Type 1} → statement M
@@ -206,10 +233,19 @@ step-own-spec =
     same-length-14
     same-length-15
     same-length-16
-    returns-5
     same-length-17
+    returns-5
     same-length-18
-    returns-6
     same-length-19
     same-length-20
+    same-length-21
+    same-length-22
+    same-length-23
+    returns-6
+    same-length-24
+    same-length-25
+    same-length-26
+    same-length-27
+    same-length-28
+    same-length-29
     returns-7)

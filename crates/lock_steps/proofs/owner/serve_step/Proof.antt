@@ -4,7 +4,7 @@ use native.Mathlib.Omega.{arith}
 use mathlib.Core.Logic.{inl, inr, ⊎-elim}
 use Rattle.steps.proofs.Acting.{own-long}
 use Rattle.lock_steps.proofs.FromLock.{fronts}
-use Rattle.lock_steps.proofs.Stepping.{acting}
+use Rattle.lock_steps.proofs.Stepping.{acting, workers-few}
 use Rattle.lock_steps.proofs.Owning.{serving-few, none-acts, first-few, waiter-few, fill-acts, Alone, take-acts}
 use borrow.Author.Needs.{needs}
 use Rattle.lock_steps.proofs.owner.serve_step.Statement.{statement}
@@ -27,8 +27,8 @@ returns c m =
 mul-task : tie.Need-mul-task
 mul-task c = search needs
 
-shared-slice-read-task : tie.Need-shared-slice-read-task
-shared-slice-read-task c = search needs
+slice-read-task : tie.Need-slice-read-task
+slice-read-task c = search needs
 
 slice-read-served : tie.Need-slice-read-served
 slice-read-served c =
@@ -123,9 +123,16 @@ receive-to-requires c κs =
     let ((m, a), place) = start .pre in
     (a .long .tasks .rows, first-few a place (omega (arith, at-if1 .if1 .left)), own-long a)
 
+note-giver-requires : tie.Need-note-giver-requires
+note-giver-requires c κs =
+    let at-if1 = c .before .before .before .before .before .before .before .before .before .before .before .before in
+    let start = at-if1 .before .before .before .before .before .before .before .before in
+    let ((m, a), place) = start .pre in
+    (a .long .device, first-few a place (omega (arith, at-if1 .if1 .left)), omega (arith, workers-few (a .fit) (start .args .w) (a .fit .worker)))
+
 one-taken-requires-2 : tie.Need-one-taken-requires-2
 one-taken-requires-2 c κs =
-    let at-if1 = c .before .before .before .before .before .before .before .before .before .before .before in
+    let at-if1 = c .before .before .before .before .before .before .before .before .before .before .before .before .before .before .before in
     let start = at-if1 .before .before .before .before .before .before .before .before in
     (omega (arith, at-if1 .if1 .left), start .pre .0 .1 .holds .device .ready-at)
 
@@ -135,9 +142,13 @@ same-length-6 c = search needs
 same-length-7 : tie.Need-same-length-7
 same-length-7 c = search needs
 
+same-length-8 : tie.Need-same-length-8
+same-length-8 c = search needs
+
 returns-3 : tie.Need-returns-3
 returns-3 c m =
-    let at-receive-to = c .before .before .before .before .before in
+    let at-note-giver = c .before .before .before in
+    let at-receive-to = at-note-giver .before .before .before .before .before .before in
     let at-if2 = at-receive-to .before .before .before in
     let at-if1 = at-if2 .before .before .before .before in
     let start = at-if1 .before .before .before .before .before .before .before .before in
@@ -149,7 +160,8 @@ returns-3 c m =
     (λ x. inl (fronts a (x .1 .ensures) (x .3 .given .1)))
     (λ x. inr (x .left))
     (at-if2 .if2 .came) in
-    rw (c .one-taken2 .ensures) (take-acts a (start .pre .1) any alone (receive .last .0) (receive .last .1 .0) (receive .ensures)))
+    rw (c .one-taken2 .ensures, at-note-giver .note-giver .ensures)
+    (take-acts a (start .pre .1) any alone (receive .last .0) (receive .last .1 .0) (receive .ensures)))
 
 pub serve-step-spec : {M : Type 1} → statement M
 serve-step-spec =
@@ -159,7 +171,7 @@ serve-step-spec =
     same-length
     returns
     mul-task
-    shared-slice-read-task
+    slice-read-task
     slice-read-served
     add-if2
     front-waiter-requires
@@ -175,7 +187,9 @@ serve-step-spec =
     returns-2
     enum-told
     receive-to-requires
+    note-giver-requires
     one-taken-requires-2
     same-length-6
     same-length-7
+    same-length-8
     returns-3)

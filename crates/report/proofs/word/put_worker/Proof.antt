@@ -1,11 +1,11 @@
--- `report::word::put_owner` meets its contract. Assumes nothing.
+-- `report::word::put_worker` meets its contract. Assumes nothing.
 use native.Mathlib.Omega.{arith}
 use Rattle.text.specs.Text.{bytes}
-use Rattle.text.specs.WritingLaws.{short-ends, wrote-same}
-use Rattle.report.proofs.Words.{owner-none, owner-some}
+use Rattle.text.specs.WritingLaws.{short-ends, short-next, wrote-same}
+use Rattle.report.proofs.Words.{worker-none, worker-some}
 use borrow.Author.Needs.{needs}
-use Rattle.report.proofs.word.put_owner.Statement.{statement}
-use Rattle.report.proofs.word.put_owner.Tie as tie
+use Rattle.report.proofs.word.put_worker.Statement.{statement}
+use Rattle.report.proofs.word.put_worker.Tie as tie
 
 slice-aggregate-put-field : tie.Need-slice-aggregate-put-field
 slice-aggregate-put-field c = search needs
@@ -20,7 +20,10 @@ returns : tie.Need-returns
 unfolding bytes
 returns c =
     let test = c .before .before .before .before .before in
-    λ o e. wrote-same (c .before .before .put-field .ensures) (owner-none o (test .before .before .args .owner) e (test .if1 .taken))
+    let wrote = c .before .before .put-field .ensures in (
+      short-next 20 (omega arith) wrote,
+      λ o e. wrote-same wrote (worker-none o (test .before .before .args .worker) e (test .if1 .taken)),
+    )
 
 sub-put-number : tie.Need-sub-put-number
 sub-put-number c = search needs
@@ -33,11 +36,12 @@ same-length-2 c = search needs
 
 returns-2 : tie.Need-returns-2
 returns-2 c =
-    let n = c .before .before .before .before .before .before .args .owner in
-    λ o e. wrote-same (c .before .before .put-number .ensures .1) (owner-some o n e (omega arith))
+    let n = c .before .before .before .before .before .before .args .worker in
+    let put = c .before .before .put-number .ensures in
+    (put .0, λ o e. wrote-same (put .1) (worker-some o n e (omega arith)))
 
-pub put-owner-spec : {M : Type 1} → statement M
-put-owner-spec =
+pub put-worker-spec : {M : Type 1} → statement M
+put-worker-spec =
     tie.close
     (tie.spec
     slice-aggregate-put-field
