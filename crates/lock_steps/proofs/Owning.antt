@@ -16,17 +16,17 @@ use Rattle.runs.specs.Circular.{entries}
 use Rattle.tasks.specs.History as TH
 use Rattle.memory.specs.Memory as T
 use Rattle.runs.specs.Circular.{entries-none, entries-cons, entries-same, entries-mod}
-use Rattle.machine.specs.State.{idle, serving, handing, leaving}
-use Rattle.machine.specs.Event.{Handed, handedBy, fills, takes, takesNone, handsOver, leaves, event}
-use Rattle.machine.specs.Step.{giverAfter}
+use Rattle.machine.specs.State.{Place, idle, serving, handing, leaving}
+use Rattle.machine.specs.Event.{Handed, handedBy, Event, fills, takes, takesNone, handsOver, leaves, event}
+use Rattle.machine.specs.Step.{lockOp, taskOp, effect, giverAfter, lockAfter}
 use Rattle.machine.specs.Events.{event-fill, event-take-alone, event-take-served, event-take-none, event-hand-over, event-leave}
 use Rattle.steps.specs.Layout.{SERVING, HANDING, LEAVING, IDLE, SLOTS, READY, GIVERS}
 use Rattle.steps.specs.declared.Counts.{Counts}
-use Rattle.steps.specs.Memory.{part, Memory, withEnds, oneTaken, Given, Able}
+use Rattle.steps.specs.Memory.{part, station, Stationed, Memory, withEnds, oneTaken, Given, Able}
 use Rattle.steps.proofs.Acting.{acts-hold, tasks-still, own-stationed}
 use Rattle.lock_steps.specs.Lent.{lockIn, handedIn, withHanded, withServed}
 use Rattle.lock_steps.specs.Going.{Gone, Received, givenBy, handedOn}
-use Rattle.lock_steps.proofs.FromLock.{Filled, after-fill, after-pass, after-leave}
+use Rattle.lock_steps.proofs.FromLock.{Filled, lockWith, after-fill, after-pass, after-leave}
 use Rattle.lock_steps.proofs.Stepping.{tasks-of, codeIn, numberIn, Leads, workers-few, tasks-few, place-is, goes, tasks-after}
 
 -- the first of the ready tasks and those behind it
@@ -74,19 +74,22 @@ module _ {m : Memory} {own : List ℕ} {w : ℕ} (a : Able m own w) where
   pub handing-few : codeIn own ≡ HANDING → numberIn own < 32
   handing-few place = workers-few (a .fit) (numberIn own) (rw (place-is a HANDING place) at (a .fit .place))
 
+  -- the lock in memory
+  abbrev lockHere : L.Lock
+  lockHere = lockIn (m .counts .ends) (m .wait) (m .registrations) (m .tickets) (m .cells)
+
   -- what the hand-over gives in the lock of the state
   abbrev handsOn : Option Handed
   handsOn = handedBy (a .c) (a .s) w
 
-  pub hands-on : handedIn (lockIn (m .counts .ends) (m .wait) (m .registrations) (m .tickets) (m .cells)) w ≡ handsOn
+  pub hands-on : handedIn lockHere w ≡ handsOn
   hands-on = rw (← a .holds .lock, a .fit .sized .slots) refl
 
   -- the worker let in, and the task that is given
-  pub let-in-few : (v : ℕ) → L.front SLOTS (lockIn (m .counts .ends) (m .wait) (m .registrations) (m .tickets) (m .cells)) ≡ some v → v < 32
+  pub let-in-few : (v : ℕ) → L.front SLOTS lockHere ≡ some v → v < 32
   let-in-few v e = workers-few (a .fit) v (a .fit .front v (rw (← a .holds .lock, a .fit .sized .slots) e))
 
-  pub handed-few : (h : Handed) → handedIn (lockIn (m .counts .ends) (m .wait) (m .registrations) (m .tickets) (m .cells)) w ≡ some h
-      → h .task < 128
+  pub handed-few : (h : Handed) → handedIn lockHere w ≡ some h → h .task < 128
   handed-few h e = tasks-few (a .fit) (h .task) (a .fit .handed h (sym hands-on ∙ e))
 
   -- the ready list and the givers in the device's array, with what is handed over
@@ -112,47 +115,45 @@ module _ {m : Memory} {own : List ℕ} {w : ℕ} (a : Able m own w) where
       withHanded m (withEnds (m .counts) ends) written (m .registrations) (m .tickets) (m .cells) (handedOn (m .device) handsOn)
 
   module _ (r : Counts) (written device : List ℕ) (numbers : r ≡ withEnds (m .counts) (r .ends))
-      (lock : lockIn (r .ends) written (m .registrations) (m .tickets) (m .cells)
-      ≡ L.handOver SLOTS (lockIn (m .counts .ends) (m .wait) (m .registrations) (m .tickets) (m .cells)))
-      (given : device ≡ handedOn (m .device) (handedIn (lockIn (m .counts .ends) (m .wait) (m .registrations) (m .tickets) (m .cells)) w)) where
+      (lock : lockIn (r .ends) written (m .registrations) (m .tickets) (m .cells) ≡ L.handOver SLOTS lockHere)
+      (given : device ≡ handedOn (m .device) (handedIn lockHere w)) where
     handed-memory : withHanded m r written (m .registrations) (m .tickets) (m .cells) device ≡ handedMemory (r .ends) written
     handed-memory =
         ap₂ (λ (n : Counts) (list : List ℕ). withHanded m n written (m .registrations) (m .tickets) (m .cells) list) numbers
         (given ∙ ap (handedOn (m .device)) hands-on)
 
+    -- by an event that hands over and goes to a place
+    hands-and-goes : (e : Event) → event (a .c) (a .s) w ≡ e → taskOp e ≡ none → (to : Place)
+        → effect (a .c) (a .s) w e
+        ≡ record { place = to; queue = a .s .queue; readyList = a .s .readyList; giver = giverAfter (a .c) (a .s) handsOn }
+        → lockWith a (r .ends) written (m .registrations) (m .tickets) (m .cells) ≡ lockAfter (a .c) (a .s .lock) w (lockOp e)
+        → (next : List ℕ) → part next ≡ part own → Stationed (station next) to (a .s .queue w)
+        → Leads a (withHanded m r written (m .registrations) (m .tickets) (m .cells) device) next
+    hands-and-goes e is nothing to effects after next kept there =
+        rw handed-memory
+        (acts-hold (a .holds) e is (handedMemory (r .ends) written) next after
+        (tasks-still (a .holds) e is own next (a .lent) kept nothing)
+        refl
+        (rw effects there)
+        (λ u d. rw effects)
+        (a .holds .device .ready-at)
+        (rw effects (list-on handsOn))
+        (rw effects (givers-on handsOn refl))
+        refl)
+
     pub hand-acts : codeIn own ≡ HANDING → (next : List ℕ) → Gone own next SERVING (numberIn own + 1)
         → Leads a (withHanded m r written (m .registrations) (m .tickets) (m .cells) device) next
     hand-acts place next gone =
-        let e = handsOver (numberIn own) handsOn in
-        let is = event-hand-over (a .c) (a .s) w (place-is a HANDING place) in
-        rw handed-memory
-        (acts-hold (a .holds) e is (handedMemory (r .ends) written) next
-        (after-pass a (r .ends) written lock)
-        (tasks-still (a .holds) e is own next (a .lent) (gone .kept) refl)
-        refl
-        (gone .there _ (serving (suc (numberIn own))) _ (own-stationed a) (refl, omega arith))
-        (λ u d. refl)
-        (a .holds .device .ready-at)
-        (list-on handsOn)
-        (givers-on handsOn refl)
-        refl)
+        hands-and-goes (handsOver (numberIn own) handsOn) (event-hand-over (a .c) (a .s) w (place-is a HANDING place)) refl
+        (serving (suc (numberIn own))) refl (after-pass a (r .ends) written lock)
+        next (gone .kept) (gone .there _ _ _ (own-stationed a) (refl, omega arith))
 
     pub leave-acts : codeIn own ≡ LEAVING → (next : List ℕ) → Gone own next IDLE 0
         → Leads a (withHanded m r written (m .registrations) (m .tickets) (m .cells) device) next
     leave-acts place next gone =
-        let e = leaves handsOn in
-        let is = event-leave (a .c) (a .s) w (place-is a LEAVING place) in
-        rw handed-memory
-        (acts-hold (a .holds) e is (handedMemory (r .ends) written) next
+        hands-and-goes (leaves handsOn) (event-leave (a .c) (a .s) w (place-is a LEAVING place)) refl idle refl
         (after-leave a (r .ends) written lock)
-        (tasks-still (a .holds) e is own next (a .lent) (gone .kept) refl)
-        refl
-        (gone .there _ idle _ (own-stationed a) refl)
-        (λ u d. refl)
-        (a .holds .device .ready-at)
-        (list-on handsOn)
-        (givers-on handsOn refl)
-        refl)
+        next (gone .kept) (gone .there _ _ _ (own-stationed a) refl)
 
   -- ---- serving
 

@@ -50,13 +50,13 @@ abbrev pub creatingFirst : Option Duty → Event
 creatingFirst none = takesTicket
 creatingFirst (some d) = minds d
 
--- what the worker that is let in sees when it looks, the session being another's
+-- what a session gives to the worker that it lets in, by what this worker sees when it looks
 abbrev pub found : ℕ → ℕ → L.Look → Option Handed
 found by to L.notYet = none
 found by to (L.receives i) = some (record { by = by; to = to; task = i })
 found by to L.owns = none
 
--- by the lock's answer to a hand-over: the task that the worker let in finds in its cell
+-- by the lock's answer to a hand-over: the task that the worker let in finds in its cell, if any
 unfoldable pub handed : ℕ → L.Lock → L.Told → Option Handed
 handed N l told = elim (told .letIn) [ none ↦ none | some v ↦ found (told .by) v (L.look N (L.handOver N l) (l .tail) v) ]
 

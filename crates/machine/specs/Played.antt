@@ -213,8 +213,8 @@ done-by = (refl, refl, refl, refl, refl)
 abbrev pub giversAfter : Setup → List ℕ → List (Option ℕ)
 giversAfter c ws = map (after c ws .giver) (numbersFrom 0 (length (c .tasks)))
 
--- worker 0 gives task 0: nobody does while it is in the cell, nor the ready task 1; from the hand-over on it does, before the look and after
--- the receipt. It takes task 1, which has it as its giver from that step on
+-- worker 0 gives task 0: nobody does while it is in the cell, nor the ready task 1; from the hand-over on it does, before the look and
+-- after the receipt. It takes task 1, which has it as its giver from that step on
 pub given : (giversAfter two untilFilled ≡ none ∷ none ∷ [])
     × (giversAfter two (untilFilled ++ 0 ∷ []) ≡ some 0 ∷ none ∷ [])
     × (giversAfter two (untilFilled ++ 0 ∷ 1 ∷ []) ≡ some 0 ∷ none ∷ [])
@@ -222,8 +222,8 @@ pub given : (giversAfter two untilFilled ≡ none ∷ none ∷ [])
 unfolding computing
 given = (refl, refl, refl, refl)
 
--- worker 1 owns, finds no task and lets worker 2 in; the task that worker 2 then takes is not from worker 1, and before it is taken it has no
--- giver
+-- worker 1 owns, finds no task and lets worker 2 in; the task that worker 2 then takes is not from worker 1, and before it is taken it
+-- has no giver
 abbrev pub untilReady : List ℕ
 untilReady = 1 ∷ 1 ∷ 2 ∷ 2 ∷ [] ++ replicate 6 1 ++ replicate 3 0 ++ replicate 4 2
 

@@ -156,5 +156,7 @@ module _ (c : Setup) (s : State) (w : ℕ) where
         cells = refl;
       }
   unmoved (quiet-none n p q) = record { tasks = refl; stand = refl; queue = refl; readyList = refl; cells = refl }
-  unmoved (quiet-hand n p) = record { tasks = refl; stand = refl; queue = refl; readyList = refl; cells = cells-of (handsOver n (handedBy c s w)) refl }
-  unmoved (quiet-leave p) = record { tasks = refl; stand = refl; queue = refl; readyList = refl; cells = cells-of (leaves (handedBy c s w)) refl }
+  unmoved (quiet-hand n p) =
+      record { tasks = refl; stand = refl; queue = refl; readyList = refl; cells = cells-of (handsOver n (handedBy c s w)) refl }
+  unmoved (quiet-leave p) =
+      record { tasks = refl; stand = refl; queue = refl; readyList = refl; cells = cells-of (leaves (handedBy c s w)) refl }

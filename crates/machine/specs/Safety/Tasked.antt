@@ -208,7 +208,8 @@ module _ (c : Setup) (s : State) (locked : Locked c (s .lock) (s .place)) (v : T
   boxes-after (view.does-fill n u j js p q f l) i = omega (arith, fills-box n u j js p (front-unfilled n u p f) i)
   boxes-after (view.does-take n j js p q) i = omega (arith, box i (serving n) leaving p)
   boxes-after (view.does-take-none n p q) i = omega (arith, box i (serving n) leaving p)
-  boxes-after (view.does-hand-over n p) i = omega (arith, same-cells (handsOver n (handedBy c s w)) refl i, box i (handing n) (serving (suc n)) p)
+  boxes-after (view.does-hand-over n p) i =
+      omega (arith, same-cells (handsOver n (handedBy c s w)) refl i, box i (handing n) (serving (suc n)) p)
   boxes-after (view.does-leave p) i = omega (arith, same-cells (leaves (handedBy c s w)) refl i, box i leaving idle p)
 
   -- ---- what a worker has at each place

@@ -18,7 +18,8 @@ use Rattle.scheduler.proofs.pick.Tie as tie
 abbrev given : tie.Start → Memory
 given s =
     let x = s .args in
-    memory (x .n) (x .wait .now) (x .registrations .now) (x .tickets .now) (x .cells .now) (x .device .now) (x .rows .now) (x .accesses .now)
+    memory (x .n) (x .wait .now) (x .registrations .now) (x .tickets .now) (x .cells .now) (x .device .now) (x .rows .now)
+    (x .accesses .now)
 
 -- with the pick counted, its worker can act
 counted-able : (s : tie.Start) {own : List ℕ} → share (s .args .store .now) (s .args .w) ≡ own
@@ -101,7 +102,8 @@ same-length-8 c = search needs
 
 returns : tie.Need-returns
 returns c =
-    let done = c .before .before .before .before .before .before .before .before .before .before .before .before .before .before .before .before in
+    let stored = c .before .before .before .before .before .before .before .before in
+    let done = stored .before .before .before .before .before .before .before .before in
     let asked = done .before .before .before .before .before .before .before .before .before in
     let s = asked .before .before .before .before .before .before .before .before .before .before .before in
     let d = done .step-own in

@@ -14,7 +14,8 @@ use Rattle.scheduler.proofs.step_own.Tie as tie
 abbrev given : tie.Start → Memory
 given s =
     let x = s .args in
-    memory (x .n) (x .wait .now) (x .registrations .now) (x .tickets .now) (x .cells .now) (x .device .now) (x .rows .now) (x .accesses .now)
+    memory (x .n) (x .wait .now) (x .registrations .now) (x .tickets .now) (x .cells .now) (x .device .now) (x .rows .now)
+    (x .accesses .now)
 
 slice-read-place : tie.Need-slice-read-place
 slice-read-place c = omega (arith, own-long (c .before .before .before .before .before .before .before .before .before .pre .0))
@@ -57,8 +58,9 @@ hand-step-requires c κs =
 
 leave-step-requires : tie.Need-leave-step-requires
 leave-step-requires c κs =
-    let m = c .before .before .before .before .before .before .match in
-    let s = c .before .before .before .before .before .before .before .before .before .before .before .before .before .before .before .before in
+    let here = c .before .before .before .before .before .before in
+    let m = here .match in
+    let s = here .before .before .before .before .before .before .before .before .before .before in
     let own = s .args .own .now in (
       (given s, s .pre .0),
       leaves-at (getD own placeAt 0) (own-place (s .pre .0))

@@ -128,11 +128,13 @@ note-giver-requires c κs =
     let at-if1 = c .before .before .before .before .before .before .before .before .before .before .before .before in
     let start = at-if1 .before .before .before .before .before .before .before .before in
     let ((m, a), place) = start .pre in
-    (a .long .device, first-few a place (omega (arith, at-if1 .if1 .left)), omega (arith, workers-few (a .fit) (start .args .w) (a .fit .worker)))
+    let few = workers-few (a .fit) (start .args .w) (a .fit .worker) in
+    (a .long .device, first-few a place (omega (arith, at-if1 .if1 .left)), omega (arith, few))
 
 one-taken-requires-2 : tie.Need-one-taken-requires-2
 one-taken-requires-2 c κs =
-    let at-if1 = c .before .before .before .before .before .before .before .before .before .before .before .before .before .before .before in
+    let at-receive-to = c .before .before .before .before .before .before .before .before in
+    let at-if1 = at-receive-to .before .before .before .before .before .before .before in
     let start = at-if1 .before .before .before .before .before .before .before .before in
     (omega (arith, at-if1 .if1 .left), start .pre .0 .1 .holds .device .ready-at)
 
