@@ -277,7 +277,11 @@ pub worker-joined : (t w : ℕ) → workerIn (join t w) t ≡ w
 unfolding join workerIn
 worker-joined t w = omega arith
 
--- it was the session of the worker that handed over
+-- whom a hand-over lets in is the front waiter, and it was the session of the worker that handed over
+pub told-front : (N : ℕ) (l : Lock) (w : ℕ) → tells N l w .letIn ≡ front N l
+unfolding tells
+told-front N l w = refl
+
 pub told-by : (N : ℕ) (l : Lock) (w : ℕ) → tells N l w .by ≡ w
 unfolding tells
 told-by N l w = refl

@@ -75,23 +75,30 @@ module _ (ends : Ends) (before after registrations : List ℕ) (w : ℕ) (r : Ha
   abbrev lock : L.Lock
   lock = lockIn ends before registrations tickets cells
 
+  let-in : {x : Front} → r .«let_in» ≡ x → L.tells SLOTS lock w .letIn ≡ waiter x
+  let-in e = sym (ap (λ (t : L.Told). t .letIn) (k .1 .1 .1 tickets cells)) ∙ ap waiter e
+
   pub told-front : {x : Front} → r .«let_in» ≡ x → L.front SLOTS lock ≡ waiter x
-  unfolding L.tells
-  told-front e = sym (ap (λ (t : L.Told). t .letIn) (k .1 .1 .1 tickets cells)) ∙ ap waiter e
+  told-front e = sym (Promise.told-front SLOTS lock w) ∙ let-in e
 
   pub told-by : r .by .0 ≡ w
-  unfolding L.tells
-  told-by = ap (λ (t : L.Told). t .by) (k .1 .1 .1 tickets cells)
+  told-by = ap (λ (t : L.Told). t .by) (k .1 .1 .1 tickets cells) ∙ Promise.told-by SLOTS lock w
 
   pub hands-nobody : r .«let_in» ≡ Nobody → handedIn lock w ≡ none
-  unfolding handed L.tells
-  hands-nobody e = rw (told-front e, handed) refl
+  unfolding handed
+  hands-nobody e = rw (let-in e) refl
 
   pub hands-found : (v : Worker) → r .«let_in» ≡ Waiter v → (x : Looked) → Sees after tickets cells (ends .tail .0) (v .0) x
       → handedIn lock w ≡ found w (v .0) (seen x)
-  unfolding handed L.tells
+  unfolding handed
   hands-found v e x sees =
-      rw (told-front e, handed, ← k .1 .1 .0 tickets cells, sees (r .ends .head .0) (r .ends .tail .0) registrations) refl
+      rw (
+        let-in e,
+        Promise.told-by SLOTS lock w,
+        ← k .1 .1 .0 tickets cells,
+        sees (r .ends .head .0) (r .ends .tail .0) registrations,
+      )
+      refl
 
 module _ {m : Memory} {own : List ℕ} {w : ℕ} (a : Able m own w) where
   -- ---- its numbers

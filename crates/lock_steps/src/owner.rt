@@ -111,9 +111,12 @@ fn hand_on(
     let next = with_ends(n, told.ends);
     if let Front::Waiter(taker) = let_in {
         let looked = lock::look(SLOTS, wait, tickets, cells, n.ends.tail, taker);
-        if let Looked::Receives(task) = looked {
-            note_giver(device, task, by.0);
-            return next;
+        match looked {
+            Looked::NotYet => {}
+            Looked::Receives(task) => {
+                note_giver(device, task, by.0);
+            }
+            Looked::Owns => {}
         }
     }
     next

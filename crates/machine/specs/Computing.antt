@@ -17,8 +17,8 @@ use Rattle.machine.specs.Event.{handed, idling, servingOrTaking, standin
 use Rattle.machine.specs.Step.{nextDrain, step, after}
 
 unfoldable pub computing : Unit {0}
-unfolding upd everyBelow Traces.pick L.start L.takeTicket L.join L.workerIn L.register L.turn L.handOver L.front L.tells L.isFree
-    L.fill L.look LH.after numbersFrom times lastBelow firstFrom accesses taskOf first reader sameAddress prev next passesRead passesWrite satisfied
-    T.start TH.lowered TH.linkMessage TH.passed TH.doneMessages TH.after duty creating P.finished start handed idling servingOrTaking
-    standingAt nextDrain step after
+unfolding upd everyBelow Traces.pick L.start L.takeTicket L.join L.workerIn L.register L.turn L.handOver L.front L.tells L.isFree L.fill
+    L.look LH.after numbersFrom times lastBelow firstFrom accesses taskOf first reader sameAddress prev next passesRead passesWrite
+    satisfied T.start TH.lowered TH.linkMessage TH.passed TH.doneMessages TH.after duty creating P.finished start handed idling
+    servingOrTaking standingAt nextDrain step after
 computing = tt

@@ -12,7 +12,7 @@ use Rattle.tasks.specs.Tasks.{ready, held, stage, isReceived}
 use Rattle.machine.specs.State.{Setup, looking, State, start}
 use Rattle.machine.specs.Event.{Event}
 use Rattle.machine.specs.Step.{after}
-use Rattle.machine.specs.Trace.{Happening, trace, tally, isTaking, isHanding, hands}
+use Rattle.machine.specs.Trace.{Happening, trace, tally, isTaking, isHanding, handedWith}
 use Rattle.machine.specs.Whereabouts.{lockStand}
 use Rattle.machine.specs.Safety.Device.{celled}
 use Rattle.machine.specs.Safety.Histories as R
@@ -22,7 +22,7 @@ use Rattle.machine.specs.Safety.Invariant.{Playable, Inv, inv-after}
 -- at place k of the list worker g hands over, and this lets worker v in with task i in its cell
 abbrev pub LetsIn : Setup → List ℕ → ℕ → ℕ → ℕ → ℕ → Event → Type 0
 LetsIn c ws i g v k e =
-    (getElem? (trace c (start c) ws) k ≡ some (record { by = g; what = e })) × (hands e ≡ some (record { by = g; to = v; task = i }))
+    (getElem? (trace c (start c) ws) k ≡ some (record { by = g; what = e })) × (handedWith e ≡ some (record { by = g; to = v; task = i }))
 
 -- of task i
 pub record Givers (c : Setup) (ws : List ℕ) (i : ℕ) : Type 0 where

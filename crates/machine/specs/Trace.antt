@@ -55,24 +55,24 @@ takingOf i (TH.receives j) = 0
 abbrev pub isTaking : ℕ → Event → ℕ
 isTaking i e = P.by (takingOf i) (taskOp e)
 
--- the task that an event hands over to its taker, if any
-abbrev pub hands : Event → Option Handed
-hands (minds d) = none
-hands (pushes i is) = none
-hands findsFull = none
-hands triesAndOwns = none
-hands triesInVain = none
-hands takesTicket = none
-hands (registers t) = none
-hands waits = none
-hands (receives t i) = none
-hands (owns t) = none
-hands (drains p k) = none
-hands (fills n v i is) = none
-hands (takes i is) = none
-hands takesNone = none
-hands (handsOver n o) = o
-hands (leaves o) = o
+-- the task that is handed over to its taker with an event, if any
+abbrev pub handedWith : Event → Option Handed
+handedWith (minds d) = none
+handedWith (pushes i is) = none
+handedWith findsFull = none
+handedWith triesAndOwns = none
+handedWith triesInVain = none
+handedWith takesTicket = none
+handedWith (registers t) = none
+handedWith waits = none
+handedWith (receives t i) = none
+handedWith (owns t) = none
+handedWith (drains p k) = none
+handedWith (fills n v i is) = none
+handedWith (takes i is) = none
+handedWith takesNone = none
+handedWith (handsOver n o) = o
+handedWith (leaves o) = o
 
 -- 1 for a hand-over of task i to its taker
 abbrev handingOf : ℕ → Option Handed → ℕ
@@ -80,4 +80,4 @@ handingOf i none = 0
 handingOf i (some h) = is (h .task) i
 
 abbrev pub isHanding : ℕ → Event → ℕ
-isHanding i e = handingOf i (hands e)
+isHanding i e = handingOf i (handedWith e)

@@ -21,7 +21,7 @@ use Rattle.tasks.specs.Promise as Promise
 use Rattle.machine.specs.State.{Setup, Place, looking, serving, State, start, picked}
 use Rattle.machine.specs.Event.{Handed, Event, receives, fills, takes, handedBy, event}
 use Rattle.machine.specs.Step.{lockOp, taskOp, effect, giverAfter, lockAfter, apply, step, finished, after}
-use Rattle.machine.specs.Trace.{Happening, trace, tally, isReceipt, isHandOver, isTaking, isHanding, hands}
+use Rattle.machine.specs.Trace.{Happening, trace, tally, isReceipt, isHandOver, isTaking, isHanding, handedWith}
 use Rattle.machine.specs.View as view
 use Rattle.machine.specs.View.{Does, does-step}
 use Rattle.machine.specs.Whereabouts.{lockStand}
@@ -51,7 +51,7 @@ pub record HandedTo (c : Setup) (i v n : ℕ) (gs : Option ℕ) (hs : List Happe
   pub at : ℕ
   pub what : Event
   pub happens : getElem? hs at ≡ some (record { by = by; what = what })
-  pub gives : hands what ≡ some (record { by = by; to = v; task = i })
+  pub gives : handedWith what ≡ some (record { by = by; to = v; task = i })
   pub before : at < n
 
 -- worker w has taken it from the ready list
@@ -300,7 +300,7 @@ module _ (c : Setup) (i : ℕ) (s : State) (inv : Inv c s) (w : ℕ) (hw : w < c
     module _ {e : Event} (d : Does c s w e) (op : LH.Op) (is-op : lockOp e ≡ some op)
         (can : LH.Can (c .slots) (s .lock) (lockStand (s .place w)) w op) (passes : LH.handsOver op ≡ 1)
         (passed : LH.after (c .slots) (s .lock) w op ≡ L.handOver (c .slots) (s .lock)) (mute : taskOp e ≡ none)
-        (told : hands e ≡ handedBy c s w) (given : effect c s w e .giver ≡ giverAfter c s (handedBy c s w)) where
+        (told : handedWith e ≡ handedBy c s w) (given : effect c s w e .giver ≡ giverAfter c s (handedBy c s w)) where
       unfetched : (t : ℕ) → lockOp e ≢ some (LH.receive t i)
       unfetched t z = let y : LH.handsOver op ≡ 0 = let x : op ≡ LH.receive t i = cc in rw x refl in omega arith
 
@@ -317,7 +317,7 @@ module _ (c : Setup) (i : ℕ) (s : State) (inv : Inv c s) (w : ℕ) (hw : w < c
       handed-now : (v : ℕ) → v < c .workers → Fronts s v i → GaveAt c i s hs → GaveAt c i (apply c s w e) (more hs w e)
       handed-now v b f g =
           let in-cell : In s i v (s .lock .tail) = (ap lockStand (f .place), f .ticket, f .task) in
-          let gives : hands e ≡ some (record { by = w; to = v; task = i }) = told ∙ handed-then v b f in
+          let gives : handedWith e ≡ some (record { by = w; to = v; task = i }) = told ∙ handed-then v b f in
           let counted : isHanding i e ≡ 1 = rw gives (is-same i i refl) in
           ⊎-elim
           (λ ((z, u) : (s .lock .tail ≡ s .lock .tail) × Ungiven i (s .giver i) hs).

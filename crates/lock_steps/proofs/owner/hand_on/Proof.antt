@@ -1,12 +1,9 @@
 -- `owner::hand_on` meets its contract. The places on the way back: `told` is the call of the lock's hand_over, `start` the beginning.
 use Prim.Native.Nat.{ℕ}
 use native.Mathlib.Omega.{arith}
-use denote.Enum.Declared
 use mathlib.Core.Path.{_≡_, refl, sym, ap, _∙_}
-use mathlib.Core.Logic.{_⊎_, ⊎-elim}
 use mathlib.Core.List.{List}
-use mathlib.Core.Option.{none, some}
-use Rattle.lock.proofs.Looked as looked
+use mathlib.Core.Option.{none}
 use Rattle.lock.specs.Lock as L
 use Rattle.lock.specs.Answers.{seen, waiter}
 use Rattle.lock.specs.declared.Ends.{Ends}
@@ -14,7 +11,6 @@ use Rattle.lock.specs.declared.Worker.{Worker}
 use Rattle.lock.specs.declared.Front.{Front}
 use Rattle.lock.specs.declared.Front.the-variants.{Nobody, Waiter}
 use Rattle.lock.specs.declared.Looked.{Looked}
-use Rattle.lock.specs.declared.Looked.the-variants.{NotYet, Receives, Owns}
 use Rattle.machine.specs.Event.{found}
 use Rattle.steps.specs.Layout.{SLOTS}
 use Rattle.lock_steps.specs.Going.{givenBy, handedOn}
@@ -85,23 +81,13 @@ module _ (told : tie.After-hand-over) where
   nobody-found =
       hands-nobody ends before after registrations w (told .hand-over .result) hands tickets cells
 
+  -- what the worker let in finds, by what it sees
   is-found : (v : Worker) → told .hand-over .result .«let_in» ≡ Waiter v
-      → (x : Looked) → Sees after tickets cells (ends .tail .0) (v .0) x
-      → handedIn lock w ≡ found w (v .0) (seen x)
-  is-found =
-      hands-found ends before after registrations w (told .hand-over .result) hands tickets cells
-
-  task-found : (v : Worker) → told .hand-over .result .«let_in» ≡ Waiter v
-      → (x : Looked) → Sees after tickets cells (ends .tail .0) (v .0) x
-      → (i : ℕ) → x ≡ Receives i → handedIn lock w ≡ some (record { by = w; to = v .0; task = i })
-  task-found v e x sees i r = is-found v e x sees ∙ ap (λ z. found w (v .0) (seen z)) r
-
--- a look that is no receipt finds no task
-finds-nothing : (w v : ℕ) (x : Looked) → (Declared.tagOf looked.the-type x ≡ 0) ⊎ (Declared.tagOf looked.the-type x ≡ 2)
-    → found w v (seen x) ≡ none
-finds-nothing w v NotYet k = refl
-finds-nothing w v (Receives i) k = absurd (⊎-elim (λ e. omega arith) (λ e. omega arith) k)
-finds-nothing w v Owns k = refl
+      → (x : Looked) → Sees after tickets cells (ends .tail .0) (v .0) x → {z : Looked} → x ≡ z
+      → handedIn lock w ≡ found w (v .0) (seen z)
+  is-found v e x sees r =
+      hands-found ends before after registrations w (told .hand-over .result) hands tickets cells v e x sees
+      ∙ ap (λ y. found w (v .0) (seen y)) r
 
 look-requires : tie.Need-look-requires
 look-requires c κs =
@@ -115,6 +101,9 @@ look-requires c κs =
       omega (arith, few, a .long .cells),
     )
 
+enum-told : tie.Need-enum-told
+enum-told c = search needs
+
 enum-known-looked : tie.Need-enum-known-looked
 enum-known-looked c = search needs
 
@@ -125,24 +114,42 @@ note-giver-requires c κs =
     let x = look .before .before .before .let-in .given in
     let told = look .before .before .before .before .before .before .before .before .before in
     let (m, own, a) = begun told .pre in
-    let gives = task-found told (x .0 .0) (x .1) (look .look .result) (look .look .ensures) (y .0 .0) (y .1) in
+    let gives = is-found told (x .0 .0) (x .1) (look .look .result) (look .look .ensures) (y .1) in
     (a .long .device, handed-few a _ gives, omega (arith, session told, workers-few (a .fit) (begun told .args .w) (a .fit .worker)))
+
+enum-told-2 : tie.Need-enum-told-2
+enum-told-2 c = search needs
+
+enum-told-3 : tie.Need-enum-told-3
+enum-told-3 c = search needs
 
 same-length : tie.Need-same-length
 same-length c = search needs
 
+returns : tie.Need-returns
+returns c =
+    let look = c .before .before in
+    let x = look .before .before .before .let-in .given in
+    let ends = look .before .before .before .before .before in
+    let told = ends .before .before .before .before in
+    let gives = is-found told (x .0 .0) (x .1) (look .look .result) (look .look .ensures) (c .enum-told .given .1) in
+    (rw (ends .with-ends .ensures) refl, (rw (ends .with-ends .ensures) (handed-over told), rw gives refl))
+
 same-length-2 : tie.Need-same-length-2
 same-length-2 c = search needs
 
-returns : tie.Need-returns
-returns c =
+same-length-3 : tie.Need-same-length-3
+same-length-3 c = search needs
+
+returns-2 : tie.Need-returns-2
+returns-2 c =
     let noted = c .before .before in
     let y = noted .before .before .before .looked .given in
     let look = noted .before .before .before .before .before in
     let x = look .before .before .before .let-in .given in
     let ends = look .before .before .before .before .before in
     let told = ends .before .before .before .before in
-    let gives = task-found told (x .0 .0) (x .1) (look .look .result) (look .look .ensures) (y .0 .0) (y .1) in (
+    let gives = is-found told (x .0 .0) (x .1) (look .look .result) (look .look .ensures) (y .1) in (
       rw (ends .with-ends .ensures) refl,
       (
         rw (ends .with-ends .ensures) (handed-over told),
@@ -152,31 +159,26 @@ returns c =
       ),
     )
 
-enum-told : tie.Need-enum-told
-enum-told c = search needs
-
-same-length-3 : tie.Need-same-length-3
-same-length-3 c = search needs
-
-returns-2 : tie.Need-returns-2
-returns-2 c =
-    let look = c .before in
-    let x = look .before .before .before .let-in .given in
-    let ends = look .before .before .before .before .before in
-    let told = ends .before .before .before .before in
-    let gives =
-    is-found told (x .0 .0) (x .1) (look .look .result) (look .look .ensures)
-    ∙ finds-nothing (begun told .args .w) (x .0 .0 .0) (look .look .result) (c .match2 .keys2) in
-    (rw (ends .with-ends .ensures) refl, (rw (ends .with-ends .ensures) (handed-over told), rw gives refl))
-
 same-length-4 : tie.Need-same-length-4
 same-length-4 c = search needs
 
 returns-3 : tie.Need-returns-3
 returns-3 c =
+    let look = c .before .before in
+    let x = look .before .before .before .let-in .given in
+    let ends = look .before .before .before .before .before in
+    let told = ends .before .before .before .before in
+    let gives = is-found told (x .0 .0) (x .1) (look .look .result) (look .look .ensures) (c .enum-told2 .given .1) in
+    (rw (ends .with-ends .ensures) refl, (rw (ends .with-ends .ensures) (handed-over told), rw gives refl))
+
+same-length-5 : tie.Need-same-length-5
+same-length-5 c = search needs
+
+returns-4 : tie.Need-returns-4
+returns-4 c =
     let ends = c .before .before in
     let told = ends .before .before .before .before in
-    let gives = nobody-found told (c .enum-told .given .1) in
+    let gives = nobody-found told (c .enum-told3 .given .1) in
     (rw (ends .with-ends .ensures) refl, (rw (ends .with-ends .ensures) (handed-over told), rw gives refl))
 
 pub hand-on-spec : {M : Type 1} → statement M
@@ -187,13 +189,17 @@ hand-on-spec =
     with-ends-requires
     enum-known-let-in
     look-requires
+    enum-told
     enum-known-looked
     note-giver-requires
+    enum-told-2
+    enum-told-3
     same-length
-    same-length-2
     returns
-    enum-told
+    same-length-2
     same-length-3
     returns-2
     same-length-4
-    returns-3)
+    returns-3
+    same-length-5
+    returns-4)
