@@ -149,11 +149,13 @@ returns-2 c =
     let x = look .before .before .before .let-in .given in
     let ends = look .before .before .before .before .before in
     let told = ends .before .before .before .before in
-    let gives = is-found told (x .0 .0) (x .1) (look .look .result) (look .look .ensures) (y .1) in (
+    let gives = is-found told (x .0 .0) (x .1) (look .look .result) (look .look .ensures) (y .1) in
+    let written : noted .note-giver .last .0 ≡ givenBy (begun told .args .device .now) (y .0 .0) (told .hand-over .result .by .0) =
+    noted .note-giver .ensures in (
       rw (ends .with-ends .ensures) refl,
       (
         rw (ends .with-ends .ensures) (handed-over told),
-        noted .note-giver .ensures
+        written
             ∙ ap (givenBy (begun told .args .device .now) (y .0 .0)) (session told)
             ∙ sym (ap (handedOn (begun told .args .device .now)) gives),
       ),
