@@ -13,14 +13,14 @@ use second::run::{Reported, STORE_SIZE};
 use std::hint::black_box;
 use std::time::Instant;
 
-const REPETITIONS: usize = 16;
+const REPETITIONS: usize = 64;
 /// Picks that one measured time holds at least, by calling again.
 const PICKS: u64 = 200_000;
 /// Bytes by which the stack lies deeper with each of so many steps, and numbers by
 /// which the store lies further on: together they go over a page.
 const STACK_STEP: usize = 200;
 const STORE_STEP: usize = 31;
-const STEPS: usize = 16;
+const STEPS: usize = 64;
 
 /// Moves the code behind it by PAD bytes. It is called so that it is linked.
 #[cfg(padded)]
