@@ -21,7 +21,7 @@ use Rattle.orders.specs.Reached.{reached}
 use Rattle.report.specs.Sizes.{longest}
 use Rattle.play.specs.Outcome.{Outcome, reportOf, refusal, written}
 use Rattle.bench.specs.Answer.{storeSize, cleared, played, run, printedFor, printed}
-use Rattle.bench_run.specs.Short.{accepted-short}
+use Rattle.play.specs.Short.{accepted-short}
 
 abbrev noLimit : ℕ
 noLimit = 2 ^ 64 - 1

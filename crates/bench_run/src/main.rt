@@ -11,7 +11,7 @@ fn main() {
     let size = io::read_full(STDIN_FILENO, &mut text);
     // the store starts as zeros
     let mut store = [0; 8192];
-    // no report is longer: `accepted-short` in specs/Short.antt
+    // no report is longer: `accepted-short` in specs/Short.antt of the crate play
     let mut output = [0u8; 14433];
     let length = answer(&text[..size], &mut store, &mut output);
     io::write_all(STDOUT_FILENO, &output[..length]);

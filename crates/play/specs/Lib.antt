@@ -2,3 +2,4 @@ pub mod Outcome
 pub mod Loaded
 pub mod Written
 pub mod Lent
+pub mod Short

@@ -3,6 +3,7 @@
 ghost use mathlib.Core.Path.{_≡_};
 ghost use mathlib.Core.List.{List};
 ghost use Prim.Native.Nat.{ℕ, _≤_};
+ghost use lib.Dec.{leb};
 ghost use lib.ListN.{length, take, drop, replicate};
 ghost use Rattle.plan.specs.Plan.{Plan};
 ghost use Rattle.plan.specs.Reading.{reading, accepted};
@@ -17,6 +18,8 @@ ghost use Rattle.steps.specs.Layout.{mostWorkers, sharesSize, SLOTS, GIVERS, de
 ghost use Rattle.steps.specs.Memory.{share, Memory, withCounts, Holds};
 ghost use Rattle.scheduler.specs.Lent.{memory};
 ghost use Rattle.report.specs.Report.{report};
+ghost use Rattle.report.specs.Shown.{Shown};
+ghost use Rattle.report.specs.Sizes.{Small};
 ghost use Rattle.orders.specs.Reached.{setupOf, reached};
 ghost use Rattle.play.specs.Outcome.{reportOf, written};
 ghost use Rattle.play.specs.Lent.{withShown};
@@ -35,6 +38,9 @@ use steps::layout::DEVICE;
 use steps::layout::GIVERS;
 use steps::layout::SLOTS;
 use tables::lay_out;
+
+// No report is longer: `accepted-short`.
+const LONGEST: usize = 14433;
 
 // What a run gives: the picks taken and the report's length, or a refusal and its line, which is 0 if it is not the plan's.
 pub enum Answer {
@@ -62,6 +68,29 @@ fn summary_of(n: Counts, store: &[u64]) -> Summary
     }
 }
 
+// Whether an output of so many bytes is long enough for the report. It is only counted where it may not be.
+fn has_room(
+    summary: Summary,
+    text: &[u8],
+    rows: &[u64],
+    labels: &[u64],
+    givers: &[u64],
+    size: usize,
+) -> bool
+    requires { ⌜ (length (now rows) ≡ layout.taskRows) × (length (now labels) ≡ layout.labelRows)
+        × (layout.mostTasks ≤ length (now givers)) × (summary .tasks ≤ layout.mostTasks) ⌝ }
+    requires { ⌜ ((c : Setup) × (s : State) × Shown c s summary (now rows) (now labels) (now givers) (now text)) ⌝ }
+    ensures { λ r. ⌜ ((c : Setup) (s : State) → Small c s →
+        Shown c s summary (now (rows .entry)) (now (labels .entry)) (now (givers .entry)) (now (text .entry)) →
+        r ≡ leb (length (report c s)) size) ⌝ }
+{
+    if LONGEST <= size {
+        return true;
+    }
+    let mut nothing = [0u8; 0];
+    put_report(summary, text, rows, labels, givers, &mut nothing) <= size
+}
+
 // Writes the report of a run, where the output is long enough.
 fn answer_of(
     text: &[u8],
@@ -74,9 +103,9 @@ fn answer_of(
 ) -> Answer
     requires { ⌜ (sharesSize ≤ length (now store)) × (length (now device) ≡ deviceSize) × (length (now rows) ≡ layout.taskRows)
         × (length (now labels) ≡ layout.labelRows) ⌝ }
-    requires { ⌜ ((m : Memory) × (c : Setup) × (s : State) × Sized c × Labels (c .tasks) (now text) (now labels)
+    requires { ⌜ ((m : Memory) × (c : Setup) × (s : State) × Sized c × Small c s × Labels (c .tasks) (now text) (now labels)
         × Holds c (withShown m n (now device) (now rows)) (share (now store)) s) ⌝ }
-    ensures { λ r. ⌜ ((m : Memory) (c : Setup) (s : State) (left : List ℕ) →
+    ensures { λ r. ⌜ ((m : Memory) (c : Setup) (s : State) (left : List ℕ) → Small c s →
         Labels (c .tasks) (now (text .entry)) (now (labels .entry)) →
         Holds c (withShown m n (now (device .entry)) (now (rows .entry))) (share (now (store .entry))) s →
         (r ≡ (written left (now (output .entry)) (s .picks) (report c s)) .answer)
@@ -84,14 +113,12 @@ fn answer_of(
 {
     let summary = summary_of(n, store);
     let givers = &device[GIVERS..];
-    // written into no bytes, it is only counted
-    let length = put_report(summary, text, rows, labels, givers, &mut output[..0]);
-    if output.len() < length {
-        return Answer::Refuses(Refusal::OutputTooShort, 0);
+    if has_room(summary, text, rows, labels, givers, output.len()) {
+        let length = put_report(summary, text, rows, labels, givers, output);
+        let picks = n.picks;
+        return Answer::Reports { picks, length };
     }
-    put_report(summary, text, rows, labels, givers, output);
-    let picks = n.picks;
-    Answer::Reports { picks, length }
+    Answer::Refuses(Refusal::OutputTooShort, 0)
 }
 
 // Lays a plan that was read into the arrays of a run in which no pick has been taken.

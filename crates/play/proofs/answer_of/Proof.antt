@@ -1,10 +1,11 @@
 -- `answer_of` meets its contract.
 use Prim.Native.Nat.{_≤_}
 use native.Mathlib.Omega.{arith}
-use mathlib.Core.Path.{_≡_}
+use mathlib.Core.Path.{_≡_, sym, _∙_}
 use lib.ListN.{length}
 use borrow.Author.Needs.{needs}
-use Rattle.text.specs.WritingLaws.{told-length, wrote-whole, counted}
+use borrow.Author.Tests.{leb-true, leb-false}
+use Rattle.text.specs.WritingLaws.{told-length, wrote-whole}
 use Rattle.memory.specs.Layout as layout
 use Rattle.machine.specs.State.{Setup, State}
 use Rattle.report.specs.Report.{report}
@@ -16,7 +17,7 @@ use Rattle.play.proofs.answer_of.Tie as tie
 summary-of-requires : tie.Need-summary-of-requires
 summary-of-requires c κs =
     let pre = c .before .before .before .before .before .before .pre in
-    let (_, _, _, sized, _, holds) = pre .1 in
+    let (_, _, _, sized, _, _, holds) = pre .1 in
     (pre .0 .0, omega (arith, holds .device .workers, sized .workers))
 
 sub-givers : tie.Need-sub-givers
@@ -27,12 +28,6 @@ part-givers-start c = search needs
 
 part-givers-end : tie.Need-part-givers-end
 part-givers-end c = search needs
-
-slice-relend-prefix-put-report : tie.Need-slice-relend-prefix-put-report
-slice-relend-prefix-put-report c = search needs
-
-slice-aggregate-put-report : tie.Need-slice-aggregate-put-report
-slice-aggregate-put-report c = search needs
 
 -- from the summary back to the beginning, and what the numbers show there
 abbrev begun : tie.After-summary-of → tie.Start
@@ -48,7 +43,7 @@ asks at =
     let sum = at .summary-of in
     let start = begun at in
     let args = start .args in
-    let (m, d, s, sized, labels, holds) = start .pre .1 in
+    let (m, d, s, sized, small, labels, holds) = start .pre .1 in
     let few = few-tasks (args .n) (args .store .now) (sum .result) (sum .ensures) m d s
     (args .device .now) (args .rows .now) (args .text .now) (args .labels .now) labels holds sized in
     let is = shown (args .n) (args .store .now) (sum .result) (sum .ensures) m d s
@@ -57,50 +52,44 @@ asks at =
       (d, s, is),
     )
 
+has-room-requires : tie.Need-has-room-requires
+has-room-requires c κs = asks (c .before)
+
 put-report-requires : tie.Need-put-report-requires
-put-report-requires c κs = asks (c .before .before)
+put-report-requires c κs = asks (c .before .before .before .before)
 
 same-length : tie.Need-same-length
 same-length c = search needs
 
 returns : tie.Need-returns
-returns c m d s left labels holds =
-    let first = c .before .before .before in
-    let at = first .before .before .before in
+returns c m d s left small labels holds =
+    let written = c .before .before in
+    let test = written .before .before in
+    let room = test .before in
+    let at = room .before .before in
     let sum = at .summary-of in
     let args = begun at .args in
     let is = shown (args .n) (args .store .now) (sum .result) (sum .ensures) m d s
     (args .device .now) (args .rows .now) (args .text .now) (args .labels .now) labels holds in
-    let put = first .put-report .ensures d s is in
-    rw (counted _ put)
-    (too-short (args .n) (args .store .now) (sum .result) (sum .ensures) m d s
-    (args .device .now) (args .rows .now) (args .text .now) (args .labels .now) labels holds
-    left (args .output .now)
-    (omega (arith, told-length put, rw (counted _ put) at (c .if1 .taken))))
-
-put-report-requires-2 : tie.Need-put-report-requires-2
-put-report-requires-2 c κs = asks (c .before .before .before .before .before .before .before)
-
-same-length-2 : tie.Need-same-length-2
-same-length-2 c = search needs
-
-returns-2 : tie.Need-returns-2
-returns-2 c m d s left labels holds =
-    let second = c .before .before in
-    let first = second .before .before .before .before .before in
-    let at = first .before .before .before in
-    let sum = at .summary-of in
-    let args = begun at .args in
-    let is = shown (args .n) (args .store .now) (sum .result) (sum .ensures) m d s
-    (args .device .now) (args .rows .now) (args .text .now) (args .labels .now) labels holds in
-    let put = first .put-report .ensures d s is in
-    let size = told-length put in
+    let put = written .put-report .ensures d s is in
     let enough : length (report d s) ≤ length (args .output .now) =
-    omega (arith, size, rw (counted _ put) at (second .before .before .if1 .left)) in
-    let whole = wrote-whole (rw (counted _ put) at (second .put-report2 .ensures d s is)) enough in
+    leb-true _ _ (sym (room .has-room .ensures d s small is) ∙ test .if1 .taken) in
     long-enough (args .n) (args .store .now) (sum .result) (sum .ensures) m d s
     (args .device .now) (args .rows .now) (args .text .now) (args .labels .now) labels holds
-    left (args .output .now) _ _ enough size whole
+    left (args .output .now) _ _ enough (told-length put) (wrote-whole put enough)
+
+returns-2 : tie.Need-returns-2
+returns-2 c m d s left small labels holds =
+    let room = c .before in
+    let at = room .before .before in
+    let sum = at .summary-of in
+    let args = begun at .args in
+    let is = shown (args .n) (args .store .now) (sum .result) (sum .ensures) m d s
+    (args .device .now) (args .rows .now) (args .text .now) (args .labels .now) labels holds in
+    too-short (args .n) (args .store .now) (sum .result) (sum .ensures) m d s
+    (args .device .now) (args .rows .now) (args .text .now) (args .labels .now) labels holds
+    left (args .output .now)
+    (leb-false _ _ (sym (room .has-room .ensures d s small is) ∙ c .if1 .left))
 
 pub answer-of-spec : {M : Type 1} → statement M
 answer-of-spec =
@@ -110,11 +99,8 @@ answer-of-spec =
     sub-givers
     part-givers-start
     part-givers-end
-    slice-relend-prefix-put-report
-    slice-aggregate-put-report
+    has-room-requires
     put-report-requires
     same-length
     returns
-    put-report-requires-2
-    same-length-2
     returns-2)

@@ -6,6 +6,7 @@ use mathlib.Core.List.{[]}
 use Rattle.orders.specs.Reached.{setupOf, reached}
 use Rattle.orders.specs.AcceptedRuns.{sized}
 use Rattle.scheduler.specs.Lent.{memory}
+use Rattle.play.specs.Short.{small}
 use borrow.Author.Needs.{needs}
 use Rattle.play.proofs.run_in.Statement.{statement}
 use Rattle.play.proofs.run_in.Tie as tie
@@ -66,7 +67,7 @@ answer-of-requires c κs =
         end .play-orders .kept .1 .1 .1 .1 .1 .1 .1 .1 .1 .0 ∙ laid .set-up .kept .1 .1 .1 .1 .1 .1 .1 .0 ∙ lengths .5,
         laid .set-up .kept .1 .1 .1 .1 .1 .1 .1 .1 .1 .0 ∙ lengths .7,
       ),
-      (memory (end .play-orders .result) _ _ _ _ [] [] _, setupOf p, reached p (start .args .limit), sized _ p e, made .1, held),
+      (memory (end .play-orders .result) _ _ _ _ [] [] _, setupOf p, reached p (start .args .limit), sized _ p e, small _ p e (start .args .limit), made .1, held),
     )
 
 same-length : tie.Need-same-length
@@ -146,7 +147,7 @@ returns c =
           let made = laid .set-up .ensures _ p _ _ e (says .tasks) (start .pre .0 .0) (start .pre .0 .1) (start .pre .1 .0 .8) in
           let held = end .play-orders .ensures .0 _ p e (says .count) (says .orders) (made .0) in
           let m = memory (end .play-orders .result) _ _ _ _ [] [] _ in
-          c .before .before .answer-of .ensures m (setupOf p) (reached p (start .args .limit)) left (made .1) held,
+          c .before .before .answer-of .ensures m (setupOf p) (reached p (start .args .limit)) left (small _ p e (start .args .limit)) (made .1) held,
       end .play-orders .ensures .1,
     )
 

@@ -13,10 +13,10 @@ use Rattle.machine.specs.Safety.Owners.{owner-below}
 use Rattle.report.specs.Sizes.{longest, Small, report-short}
 use Rattle.orders.specs.Reached.{setupOf, reached}
 use Rattle.orders.specs.AcceptedRuns.{playable, own-picks, own-givers, numbers-small}
 use Rattle.play.specs.Outcome.{reportOf}
 
 module _ (text : List ℕ) (p : Plan) (e : reading text ≡ accepted p) (limit : ℕ) where
-  small : Small (setupOf p) (reached p limit)
+  pub small : Small (setupOf p) (reached p limit)
   small =
       let formed = accepted-well-formed text p e in
       let notes = noted (setupOf p) (playable text p e) (picksUpTo limit p) (own-picks text p e limit) in
