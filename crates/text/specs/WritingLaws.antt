@@ -7,7 +7,7 @@ use native.Mathlib.Nat.{add-zero, zero-add}
 use native.Mathlib.Numerals.{add-one}
 use lib.ListN.{length, take, drop, getD, set, length-append}
 use lib.Seq.{sets, sets-eq, length-sets, take-suc, length-take-le, set-out}
-use Rattle.runs.specs.Stores.{none-of, sets-append}
+use Rattle.runs.specs.Stores.{sets-append}
 use Rattle.text.specs.Text.{tab, lineFeed, line}
 use Rattle.text.specs.Writing.{Said, plain, field, fields, said, Ends, Wrote}
 
@@ -100,10 +100,6 @@ module _ {at : ℕ} {f : List ℕ} {end : ℕ} (n : ℕ) (h : length f ≤ n) wh
   short-next w = omega (arith, w .place, length-append f (end ∷ []))
 
 -- ---- length first, then bytes: what is written at the front tells its length, and stands there whole where there is room for it
-
--- an empty array stays empty: it is only counted
-pub counted : (after : List ℕ) {at : ℕ} {x : Said} {next : ℕ} → Wrote [] at x next after → after ≡ []
-counted after w = none-of after (wrote-length w)
 
 module _ {bs out : List ℕ} {n : ℕ} {after : List ℕ} (w : Wrote out 0 (plain bs) n after) where
   pub told-length : n ≡ length bs
