@@ -79,7 +79,7 @@ fn has_room(
 ) -> bool
     requires { ⌜ (length (now rows) ≡ layout.taskRows) × (length (now labels) ≡ layout.labelRows)
         × (layout.mostTasks ≤ length (now givers)) × (summary .tasks ≤ layout.mostTasks) ⌝ }
-    requires { ⌜ ((c : Setup) × (s : State) × Shown c s summary (now rows) (now labels) (now givers) (now text)) ⌝ }
+    requires { ⌜ ((c : Setup) × (s : State) × Small c s × Shown c s summary (now rows) (now labels) (now givers) (now text)) ⌝ }
     ensures { λ r. ⌜ ((c : Setup) (s : State) → Small c s →
         Shown c s summary (now (rows .entry)) (now (labels .entry)) (now (givers .entry)) (now (text .entry)) →
         r ≡ leb (length (report c s)) size) ⌝ }

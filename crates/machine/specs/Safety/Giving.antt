@@ -225,9 +225,7 @@ module _ (c : Setup) (i : ℕ) (s : State) (inv : Inv c s) (w : ℕ) (hw : w < c
           (omega (arith, tally-more w e (isReceipt i) hs))
           (rw same-giver (ungiven-more i w e (omega arith) (omega arith) u))
       keeps (in-front v b k u) =
-          let (p, x, y) = k in
-          let same-tail : (apply c s w e) .lock .tail ≡ s .lock .tail =
-          tail-kept c s w e (unpassed v b (record { place = waits-at (s .place v) _ p; ticket = x; task = y })) in
+          let same-tail : (apply c s w e) .lock .tail ≡ s .lock .tail = tail-kept c s w e (unpassed v b k) in
           in-front v b (rw same-tail (stays-in d v _ k (unfetched _))) (rw same-giver (ungiven-more i w e (omega arith) (omega arith) u))
       keeps (let-in v t b k m g) =
           let-in v t b (stays-in d v t k (unfetched t)) (omega (arith, tail-apply c s w e))
@@ -316,18 +314,17 @@ module _ (c : Setup) (i : ℕ) (s : State) (inv : Inv c s) (w : ℕ) (hw : w < c
 
       handed-now : (v : ℕ) → v < c .workers → Fronts s v i → GaveAt c i s hs → GaveAt c i (apply c s w e) (more hs w e)
       handed-now v b f g =
-          let in-cell : In s i v (s .lock .tail) = (ap lockStand (f .place), f .ticket, f .task) in
           let gives : handedWith e ≡ some (record { by = w; to = v; task = i }) = told ∙ handed-then v b f in
           let counted : isHanding i e ≡ 1 = rw gives (is-same i i refl) in
           ⊎-elim
           (λ ((z, u) : (s .lock .tail ≡ s .lock .tail) × Ungiven i (s .giver i) hs).
-          let-in v (s .lock .tail) b (stays-in d v (s .lock .tail) in-cell (unfetched (s .lock .tail)))
+          let-in v (s .lock .tail) b (stays-in d v (s .lock .tail) f (unfetched (s .lock .tail)))
           (omega (arith, tail-raised c s w e raised))
           (record {
             by = w;
             giver = ap (λ f. f i) (given ∙ ap (giverAfter c s) (handed-then v b f)) ∙ upd-same (s .giver) i (some w);
             worker = hw;
-            other = λ x. Lock.front-still (inv .locked) v ((Lock.front-iff (inv .locked) v) .1 (b, in-cell .0)) op (rw x at can);
+            other = λ x. Lock.front-still (inv .locked) v ((Lock.front-iff (inv .locked) v) .1 (b, f .0)) op (rw x at can);
             once = omega (arith, tally-more w e (isHanding i) hs, u .unhanded);
             untaken = omega (arith, tally-more w e (isTaking i) hs, u .untaken, untouched);
             at = length hs;
@@ -337,7 +334,7 @@ module _ (c : Setup) (i : ℕ) (s : State) (inv : Inv c s) (w : ℕ) (hw : w < c
             before = omega (arith, length-more w e hs);
           }))
           (λ (z, h). absurd (omega arith))
-          (given-in-cell c i s inv v (s .lock .tail) b in-cell g)
+          (given-in-cell c i s inv v (s .lock .tail) b f g)
 
       hands-over : GaveAt c i s hs → GaveAt c i (apply c s w e) (more hs w e)
       hands-over = go (handedBy c s w) refl

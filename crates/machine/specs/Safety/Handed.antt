@@ -11,17 +11,15 @@ use Rattle.lock.specs.History as LH
 use Rattle.lock.specs.Promise as Lock
 use Rattle.tasks.specs.Tasks as T
 use Rattle.tasks.specs.Promise as Promise
-use Rattle.machine.specs.State.{Setup, looking, State}
+use Rattle.machine.specs.State.{Setup, State}
 use Rattle.machine.specs.Event.{Handed, found, handed, handedBy}
 use Rattle.machine.specs.Whereabouts.{lockStand}
 use Rattle.machine.specs.Safety.Locked.{Locked, lockStands, waits-at}
 use Rattle.machine.specs.Safety.Device.{Tasked, Device, celled}
 
 -- task i lies in the cell of worker v, who waits with the tail, under that ticket
-pub record Fronts (s : State) (v i : ℕ) : Type 0 where
-  pub place : s .place v ≡ looking (s .lock .tail)
-  pub ticket : s .lock .cellTicket v ≡ s .lock .tail
-  pub task : s .lock .cellTask v ≡ i
+abbrev pub Fronts : State → ℕ → ℕ → Type 0
+Fronts s v i = LH.InCell (s .lock) (lockStands (s .place)) v (s .lock .tail) i
 
 module _ (c : Setup) (s : State) (locked : Locked c (s .lock) (s .place)) (w : ℕ) where
   abbrev let-in : Option ℕ
@@ -44,11 +42,7 @@ module _ (c : Setup) (s : State) (locked : Locked c (s .lock) (s .place)) (w : �
       let task : h .task ≡ i = cc in (
         cc,
         rw to below,
-        record {
-          place = rw to (waits-at (s .place v) (s .lock .tail) waits);
-          ticket = rw to (sym (ap (λ f. f v) (cells .0)) ∙ a);
-          task = rw (to, task) (sym (ap (λ f. f v) (cells .1)) ∙ b);
-        },
+        (rw to waits, rw to (sym (ap (λ f. f v) (cells .0)) ∙ a), rw (to, task) (sym (ap (λ f. f v) (cells .1)) ∙ b)),
       )
 
   pub handed-is : (h : Handed) → handedBy c s w ≡ some h → (h .by ≡ w) × (h .to < c .workers) × Fronts s (h .to) (h .task)
@@ -71,7 +65,7 @@ module _ (c : Setup) (s : State) (locked : Locked c (s .lock) (s .place)) (w : �
       → (v i : ℕ) → v < c .workers → Fronts s v i → handedBy c s w ≡ some (record { by = w; to = v; task = i })
   unfolding handed
   handed-if hw op can hands is v i below at =
-      let told : let-in ≡ some v = (Lock.told-iff locked w v) .1 (below, ap lockStand (at .place)) in
+      let told : let-in ≡ some v = (Lock.told-iff locked w v) .1 (below, at .0) in
       rw (told, Lock.told-by (c .slots) (s .lock) w, sees) refl
     where
       inside : LH.InCell (LH.after (c .slots) (s .lock) w op) (upd (lockStands (s .place)) w (LH.standAfter (s .lock) op)) v
@@ -80,7 +74,7 @@ module _ (c : Setup) (s : State) (locked : Locked c (s .lock) (s .place)) (w : �
           ⊎-elim
           (λ (same, received). let none-handed : LH.handsOver op ≡ 0 = rw received refl in absurd (omega arith))
           (λ k. k)
-          (Lock.cell-stays locked w v (s .lock .tail) i (ap lockStand (at .place), at .ticket, at .task) op can)
+          (Lock.cell-stays locked w v (s .lock .tail) i at op can)
 
       sees : L.look (c .slots) (L.handOver (c .slots) (s .lock)) (s .lock .tail) v ≡ L.receives i
       sees =
@@ -93,7 +87,7 @@ pub handed-below : (c : Setup) (s : State) → Locked c (s .lock) (s .place) →
     → (w : ℕ) (h : Handed) → handedBy c s w ≡ some h → h .task < length (c .tasks)
 handed-below c s locked tasked device w h e =
     let (by, below, at) = handed-is c s locked w h e in
-    held-below (celled c s device (h .to) (s .lock .tail) (h .task) below (at .place) (at .ticket) (at .task))
+    held-below (celled c s device (h .to) (s .lock .tail) (h .task) below (waits-at (s .place (h .to)) (s .lock .tail) (at .0)) (at .1) (at .2))
   where
     opened-le : (x : T.Creation) → T.Made (c .tasks) x → T.opened x ≤ length (c .tasks)
     opened-le (T.opening i) m = m

@@ -10,6 +10,7 @@ use Rattle.memory.specs.Layout as layout
 use Rattle.machine.specs.State.{Setup, State}
 use Rattle.report.specs.Report.{report}
 use Rattle.report.specs.Shown.{Shown}
+use Rattle.report.specs.Sizes.{Small}
 use Rattle.play.proofs.Answering.{giversIn, givers-long, shown, few-tasks, too-short, long-enough}
 use Rattle.play.proofs.answer_of.Statement.{statement}
 use Rattle.play.proofs.answer_of.Tie as tie
@@ -38,7 +39,7 @@ asks : (at : tie.After-summary-of)
     let sum = at .summary-of .result in
     ((length (args .rows .now) ≡ layout.taskRows) × (length (args .labels .now) ≡ layout.labelRows)
     × (layout.mostTasks ≤ length (giversIn (args .device .now))) × (sum .tasks ≤ layout.mostTasks))
-    × ((d : Setup) × (s : State) × Shown d s sum (args .rows .now) (args .labels .now) (giversIn (args .device .now)) (args .text .now))
+    × ((d : Setup) × (s : State) × Small d s × Shown d s sum (args .rows .now) (args .labels .now) (giversIn (args .device .now)) (args .text .now))
 asks at =
     let sum = at .summary-of in
     let start = begun at in
@@ -49,14 +50,14 @@ asks at =
     let is = shown (args .n) (args .store .now) (sum .result) (sum .ensures) m d s
     (args .device .now) (args .rows .now) (args .text .now) (args .labels .now) labels holds in (
       (start .pre .0 .2, start .pre .0 .3, omega (arith, start .pre .0 .1, givers-long (args .device .now)), few),
-      (d, s, is),
+      (d, s, small, is),
     )
 
 has-room-requires : tie.Need-has-room-requires
 has-room-requires c κs = asks (c .before)
 
 put-report-requires : tie.Need-put-report-requires
-put-report-requires c κs = asks (c .before .before .before .before)
+put-report-requires c κs = let (lengths, (d, s, small, is)) = asks (c .before .before .before .before) in (lengths, (d, s, is))
 
 same-length : tie.Need-same-length
 same-length c = search needs

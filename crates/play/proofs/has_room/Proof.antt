@@ -20,7 +20,9 @@ slice-aggregate-put-report : tie.Need-slice-aggregate-put-report
 slice-aggregate-put-report c = search needs
 
 put-report-requires : tie.Need-put-report-requires
-put-report-requires c κs = search needs
+put-report-requires c κs =
+    let (lengths, (d, s, small, is)) = c .before .before .before .before .before .before .pre in
+    (lengths, (d, s, is))
 
 returns-2 : tie.Need-returns-2
 returns-2 c d s small shown =

@@ -17,7 +17,7 @@ const REPETITIONS: usize = 64;
 /// Picks that one measured time holds at least, by calling again.
 const PICKS: u64 = 200_000;
 /// Bytes by which the stack lies deeper with each of so many steps, and numbers by
-/// which the store lies further on: together they go over a page.
+/// which the store lies further on: together they go over a page more than once.
 const STACK_STEP: usize = 200;
 const STORE_STEP: usize = 31;
 const STEPS: usize = 64;
