@@ -52,6 +52,7 @@ module _ (text : List ℕ) (before after : Lent) (r : ReadPlan) (g : Gives text 
                   record {
                     size = tasks-length (h .rows) ∙ rows;
                     workers = h .workers;
+                    form = h .form;
                     count = h .tasks;
                     tasks = has-tasks (h .rows) (omega (arith, formed .tasks-few, rows));
                   };

@@ -77,3 +77,19 @@ heldOnes =
 pub givers-shown : AllHold heldOnes
 unfolding computed
 givers-shown = (refl, (refl, tt))
+
+-- the second form: as many slots as workers, one fewer, the lock's start values, the listing on a ring of two slots, and a queue of one
+-- task that is full at pick 6, so that pick 7 tries the lock and owns it; in the first form pick 7 takes a ticket to wait with
+abbrev pub withSizes : List Example
+withSizes =
+    prints "W\t2\t2\t1\n" "E\tfinished\t0\nL\t2\t3\t-\n"
+    ∷ prints "W\t2\t1\t1\n" "X\t9\t1\n"
+    ∷ prints "W\t32\t64\t8\n" "E\tfinished\t0\nL\t64\t65\t-\n"
+    ∷ prints "W\t2\t2\t1\nT\ta\t0\nP\t1\t3\nP\t0\t5\nP\t1\t4\nP\t0\t2\n" "E\tfinished\t14\nT\t0\ta\tover\t0\t13\t14\t1\nL\t4\t4\t1\n"
+    ∷ prints "W\t1\t1\t1\nT\ta\t0\nT\tb\t0\nR\t7\n" "E\topen\t7\nT\t0\ta\tready\t-\t-\t-\t-\nT\t1\tb\tready\t-\t-\t-\t-\nL\t2\t2\t0\n"
+    ∷ prints "W\t1\nT\ta\t0\nT\tb\t0\nR\t7\n" "E\topen\t7\nT\t0\ta\tready\t-\t-\t-\t-\nT\t1\tb\tready\t-\t-\t-\t-\nL\t65\t65\t-\n"
+    ∷ []
+
+pub sizes-shown : AllHold withSizes
+unfolding computed
+sizes-shown = (refl, (refl, (refl, (refl, (refl, (refl, tt))))))

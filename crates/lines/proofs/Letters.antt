@@ -32,14 +32,14 @@ module _ (text : List ℕ) (at letter : ℕ) (here : getD text at NONE ≡ lette
   pub whole-line : 65 ≤ letter → letter ≤ 90 → (form : List (List ℕ) → Option plans.Line) {p : Plan} {row : List ℕ} {r : Line}
       → ((fs : List (List ℕ)) → lineBy p letter fs ≡ form fs) → Whole text (at + 2) p form r → LineAt text at p row r
   unfolding lineOfFields
-  whole-line l u form {p} e w = whole (whole-after (lettered l u) form (lineOfFields p) e w)
+  whole-line l u form {p} e w = whole (whole-after (lettered l u) form (lineOfFields p) (λ f fs. e (f ∷ fs)) w)
 
 pub task-line : (text : List ℕ) (at : ℕ) → getD text at NONE ≡ 'T' → getD text (at + 1) NONE ≡ tab
     → {p : Plan} {row : List ℕ} {r : Line} → TaskHead text (at + 2) p row r → LineAt text at p row r
 unfolding lineOfFields lineBy
 task-line text at here end {p} (TaskHead.malformed wrong h) =
     whole (malformed wrong
-    (formless-after (lettered text at 'T' here end (omega arith) (omega arith)) (labelAndCost (taskLine p)) (lineOfFields p) (λ fs. refl)
+    (formless-after (lettered text at 'T' here end (omega arith) (omega arith)) (labelAndCost (taskLine p)) (lineOfFields p) (λ f fs. refl)
     h))
 task-line text at here end (begun b) = task b (fields-after (lettered text at 'T' here end (omega arith) (omega arith)) (b .fields))
 

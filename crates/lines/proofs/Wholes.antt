@@ -8,28 +8,30 @@ use native.Mathlib.Omega.{arith}
 use lib.Dec.{eqb, leb, ltb}
 use lib.ListN.{length, drop}
 use borrow.Author.Tests.{le-leb, lt-leb, le-ltb, lt-ltb, leb-true, leb-false, ltb-true, ltb-false, not-false}
-use Rattle.refusals.specs.declared.Refusal.the-variants.{OutOfRange, Misplaced}
+use Rattle.refusals.specs.declared.Refusal.the-variants.{OutOfRange, Misplaced, TooFewSlots}
 use Rattle.text.specs.declared.read.Number.{Number}
 use Rattle.text.specs.declared.read.Number.the-variants as numbers
-use Rattle.text.specs.Text.{within, numberOf}
+use Rattle.text.specs.Text.{tab, within, numberOf}
 use Rattle.runs.specs.Tests.{ways, both-left, both-right, not-both}
 use Rattle.runs.specs.Update.{clash}
 use Rattle.text.specs.Fields.{Cut, endless, cut, fieldOf, answer, asNumber, numberBy, clipped, fitsIn}
 use Rattle.text.specs.Fields.{First, unended, first, behind, firstLine, goesOn, Fields}
-use Rattle.text.specs.FieldLaws.{fields-none, fields-more, fields-endless}
-use Rattle.plan.specs.Plan.{Order, picks, seeded, Plan}
+use Rattle.text.specs.FieldLaws.{fields-none, fields-more, fields-endless, line-parts, some-part}
+use Rattle.plan.specs.declared.form.Form.{Form}
+use Rattle.plan.specs.declared.form.Form.the-variants as forms
+use Rattle.plan.specs.Plan.{Order, picks, seeded, slotsOf, Plan}
 use Rattle.plan.specs.Line as plans
-use Rattle.plan.specs.Line.{ask, atStart, workersLine, orderLine, oneNumber, withBoth, twoNumbers}
+use Rattle.plan.specs.Line.{ask, atStart, sizesInRange, workersLine, orderLine, oneNumber, withBoth, twoNumbers, inForm}
 use Rattle.plan.specs.Reading.{firstRefusal}
+use Rattle.plan.specs.Accepted.{granted}
 use Rattle.kept.specs.Layout as layout
 use Rattle.kept.specs.Orders.{codeOf, seedOf}
 use Rattle.lines.specs.declared.line.Fault.{Fault}
-use Rattle.lines.specs.declared.line.Fault.the-variants.{Nothing}
-use Rattle.lines.specs.declared.line.Kind.the-variants as kinds
+use Rattle.lines.specs.declared.line.Fault.the-variants.{Nothing, Is}
 use Rattle.lines.specs.declared.line.Sofar.{Sofar}
 use Rattle.lines.specs.declared.line.Line.{Line}
 use Rattle.lines.specs.Lines.{Sums, faultOf, faultIn, firstFault, wrongLine}
-use Rattle.lines.specs.Lines.{Formless, Makes, IsWhole, Whole, malformed, formed, Ordered, Coded, countLine}
+use Rattle.lines.specs.Lines.{Formless, Makes, IsWhole, Whole, malformed, formed, readWorkers, Ordered, Coded, countLine}
 
 -- ---- fields after which a line is of no form, whatever follows
 
@@ -56,6 +58,14 @@ module _ (form : List (List ℕ) → Option plans.Line) (text : List ℕ) (at : 
 
 -- ---- a line after its first field
 
+-- what follows is a field at least
+some-field : (text : List ℕ) {fs : List (List ℕ)} {rest : List ℕ} → firstLine text ≡ first fs rest
+    → (g : List ℕ) × (gs : List (List ℕ)) × (fs ≡ g ∷ gs)
+some-field text {fs} {rest} e =
+    let (part, parts, fields) = line-parts text fs rest e in
+    let (g, gs, is) = some-part tab part in
+    (g, gs, sym fields ∙ is)
+
 module _ {text : List ℕ} {at : ℕ} {x : List ℕ} {then : ℕ} (so : Fields text at (x ∷ []) then true) where
   after-first : (gs : List (List ℕ)) (more : Bool) (rest : List ℕ) → behind (x ∷ []) (goesOn gs more rest) ≡ goesOn (x ∷ gs) more rest
   after-first gs false rest = refl
@@ -73,13 +83,16 @@ module _ {text : List ℕ} {at : ℕ} {x : List ℕ} {then : ℕ} (so : Fields t
         line = so .line ∙ ap (behind (x ∷ [])) (fields .line) ∙ after-first gs more (drop next text);
       }
 
-  module _ (form all : List (List ℕ) → Option plans.Line) (e : (fs : List (List ℕ)) → all (x ∷ fs) ≡ form fs) where
+  module _ (form all : List (List ℕ) → Option plans.Line) (e : (f : List ℕ) (fs : List (List ℕ)) → all (x ∷ f ∷ fs) ≡ form (f ∷ fs)) where
+    same-form : (fs : List (List ℕ)) {rest : List ℕ} → firstLine (drop then text) ≡ first fs rest → all (x ∷ fs) ≡ form fs
+    same-form fs q = let (g, gs, is) = some-field (drop then text) q in rw is (e g gs)
+
     pub formless-after : Formless form (firstLine (drop then text)) → Formless all (firstLine (drop at text))
-    formless-after h = rw (so .line) (by (firstLine (drop then text)) h)
+    formless-after h = rw (so .line) (by (firstLine (drop then text)) refl h)
       where
-        by : (l : First) → Formless form l → Formless all (behind (x ∷ []) l)
-        by unended h = tt
-        by (first fs rest) h = e fs ∙ h
+        by : (l : First) → firstLine (drop then text) ≡ l → Formless form l → Formless all (behind (x ∷ []) l)
+        by unended q h = tt
+        by (first fs rest) q h = same-form fs q ∙ h
 
     pub whole-after : {p : Plan} {r : Line} → Whole text then p form r → Whole text at p all r
     whole-after (malformed wrong h) = malformed wrong (formless-after h)
@@ -87,7 +100,7 @@ module _ {text : List ℕ} {at : ℕ} {x : List ℕ} {then : ℕ} (so : Fields t
         formed (record {
           l = f .l;
           fs = x ∷ f .fs;
-          formed = e (f .fs) ∙ f .formed;
+          formed = same-form (f .fs) (f .fields .line) ∙ f .formed;
           fields = fields-after (f .fields);
           ended = f .ended;
           whole = f .whole;
@@ -148,7 +161,7 @@ pub first-told : (text : List ℕ) (at : ℕ) → at ≤ length text → (n : Nu
     → Told text at [] value fits next more
 first-told text at h = number-told (fields-none text at h)
 
--- ---- the fields of one number, and of two
+-- ---- the fields of one number, of two, and of a W line
 
 module _ (make : ℕ → plans.Line) (x : List ℕ) where
   one-none : numberOf x ≡ none → (gs : List (List ℕ)) → oneNumber make (x ∷ gs) ≡ none
@@ -162,37 +175,55 @@ module _ (make : ℕ → ℕ → plans.Line) (x : List ℕ) where
   two-none e (y ∷ g ∷ gs) = refl
 
   -- after the first number, the form of the second
-  second-form : (v : ℕ) → numberOf x ≡ some v → (gs : List (List ℕ)) → twoNumbers make (x ∷ gs) ≡ oneNumber (make v) gs
-  second-form v e [] = refl
-  second-form v e (y ∷ []) = rw e (by (numberOf y))
+  second-number : (v : ℕ) → numberOf x ≡ some v → (y : List ℕ) (gs : List (List ℕ))
+      → twoNumbers make (x ∷ y ∷ gs) ≡ oneNumber (make v) (y ∷ gs)
+  second-number v e y [] = rw e (by (numberOf y))
     where
       by : (o : Option ℕ) → withBoth make (some v) o ≡ Option·map (make v) o
       by none = refl
       by (some n) = refl
-  second-form v e (y ∷ g ∷ gs) = refl
+  second-number v e y (g ∷ gs) = refl
+
+module _ (make : ℕ → Form → plans.Line) (x : List ℕ) where
+  in-form-none : numberOf x ≡ none → (gs : List (List ℕ)) → inForm make (x ∷ gs) ≡ none
+  in-form-none e [] = rw e
+  in-form-none e (g ∷ gs) = rw (e, inForm)
+
+  -- after the workers, the form of the other two
+  second-form : (v : ℕ) → numberOf x ≡ some v → (y : List ℕ) (gs : List (List ℕ))
+      → inForm make (x ∷ y ∷ gs) ≡ twoNumbers (λ slots capacity. make v (forms.Second slots capacity)) (y ∷ gs)
+  second-form v e y gs = rw (e, inForm)
 
 -- lines that are not of their form, by what was read of them
 module _ (text : List ℕ) (at : ℕ) (in-text : at ≤ length text) (p : Plan) {r : Line} (wrong : r ≡ wrongLine) where
   so : Fields text at [] at true
   so = fields-none text at in-text
 
-  module _ (make : ℕ → plans.Line) where
-    pub one-untold : (n : Number) → n ≡ asNumber at (fieldOf (drop at text)) → n ≡ numbers.Malformed → Whole text at p (oneNumber make) r
-    one-untold n e is =
-        malformed wrong
-        (formless-next (oneNumber make) text at so (λ x more rest q. one-none make x (number-untold so n e is x more rest q)))
+  abbrev Untold : (List (List ℕ) → Option plans.Line) → Type 0
+  Untold form = (n : Number) → n ≡ asNumber at (fieldOf (drop at text)) → n ≡ numbers.Malformed → Whole text at p form r
 
-    pub one-goes-on : {value : ℕ} {fits : Bool} {next : ℕ} → Told text at [] value fits next true → Whole text at p (oneNumber make) r
-    one-goes-on t = malformed wrong (formless-next (oneNumber make) text at (t .fields) (λ x more rest q gs. refl))
+  -- the first field is no number
+  untold : (form : List (List ℕ) → Option plans.Line) → ((x : List ℕ) → numberOf x ≡ none → (gs : List (List ℕ)) → form (x ∷ gs) ≡ none)
+      → Untold form
+  untold form h n e is =
+      malformed wrong (formless-next form text at so (λ x more rest q. h x (number-untold so n e is x more rest q)))
 
-  module _ (make : ℕ → ℕ → plans.Line) where
-    pub two-untold : (n : Number) → n ≡ asNumber at (fieldOf (drop at text)) → n ≡ numbers.Malformed → Whole text at p (twoNumbers make) r
-    two-untold n e is =
-        malformed wrong
-        (formless-next (twoNumbers make) text at so (λ x more rest q. two-none make x (number-untold so n e is x more rest q)))
+  pub one-untold : (make : ℕ → plans.Line) → Untold (oneNumber make)
+  one-untold make = untold (oneNumber make) (one-none make)
 
-    pub two-ends : {value : ℕ} {fits : Bool} {next : ℕ} → Told text at [] value fits next false → Whole text at p (twoNumbers make) r
-    two-ends t = malformed wrong (rw (t .fields .line))
+  pub two-untold : (make : ℕ → ℕ → plans.Line) → Untold (twoNumbers make)
+  two-untold make = untold (twoNumbers make) (two-none make)
+
+  pub in-form-untold : (make : ℕ → Form → plans.Line) → Untold (inForm make)
+  in-form-untold make = untold (inForm make) (in-form-none make)
+
+  pub one-goes-on : (make : ℕ → plans.Line) {value : ℕ} {fits : Bool} {next : ℕ} → Told text at [] value fits next true
+      → Whole text at p (oneNumber make) r
+  one-goes-on make t = malformed wrong (formless-next (oneNumber make) text at (t .fields) (λ x more rest q gs. refl))
+
+  pub two-ends : (make : ℕ → ℕ → plans.Line) {value : ℕ} {fits : Bool} {next : ℕ} → Told text at [] value fits next false
+      → Whole text at p (twoNumbers make) r
+  two-ends make t = malformed wrong (rw (t .fields .line))
 
 -- ---- ranges of a number are those of what 64 bits hold of it
 
@@ -211,11 +242,11 @@ module _ (m : ℕ) where
   large e = omega (arith, ltb-false m (2 ^ 64) e)
 
   -- the code sees what 64 bits hold
-  out-of : (n high : ℕ) → n ≡ clipped m → high < 18446744073709551615 → not (within 1 high n) ≡ not (within 1 high m)
-  out-of n high is h =
-      rw is (ways (fitsIn m) (λ e. simp e) (λ e.
+  range-clipped : (high : ℕ) → high < 18446744073709551615 → within 1 high (clipped m) ≡ within 1 high m
+  range-clipped high h =
+      ways (fitsIn m) (λ e. simp e) (λ e.
       let big = large e in
-      simp (e, lt-leb 18446744073709551615 high h, lt-leb m high (omega arith), le-leb 1 m (omega arith))))
+      simp (e, lt-leb 18446744073709551615 high h, lt-leb m high (omega arith), le-leb 1 m (omega arith)))
 
   pub above-clipped : (n : ℕ) → n ≤ 18446744073709551615 → leb n (clipped m) ≡ not (ltb m n)
   above-clipped n h =
@@ -239,9 +270,26 @@ module _ (place range : Bool) where
       → firstFault misplaced out ≡ faultOf (firstRefusal (ask place Misplaced ∷ ask range OutOfRange ∷ []))
   fault-is misplaced out a b = rw (a, b) (simp Bool·not-not)
 
-  in-range : firstRefusal (ask place Misplaced ∷ ask range OutOfRange ∷ []) ≡ none → range ≡ true
-  unfolding firstRefusal
-  in-range e = ways range (λ h. h) (λ h. ways place (λ q. clash (cc (simp (q, h) at e))) (λ q. clash (cc (simp q at e))))
+-- the first of two faults
+abbrev pub firstOf : Fault → Fault → Fault
+firstOf Nothing next = next
+firstOf (Is r) next = Is r
+
+-- a W line: the third that is asked of it is judged last
+pub workers-fault : (p : Plan) (n : ℕ) (form : Form) (misplaced out : Bool) (fault last : Fault) → misplaced ≡ not (atStart p)
+    → out ≡ not (within 1 32 n && sizesInRange form) → fault ≡ firstFault misplaced out
+    → last ≡ faultOf (firstRefusal (ask (leb n (slotsOf form)) TooFewSlots ∷ [])) → firstOf fault last ≡ faultIn (workersLine p n form)
+unfolding firstRefusal
+workers-fault p n form misplaced out fault last place range e f =
+    rw (f, e, fault-is (atStart p) (within 1 32 n && sizesInRange form) misplaced out place range)
+    (by (atStart p) (within 1 32 n && sizesInRange form) (leb n (slotsOf form)))
+  where
+    by : (a b c : Bool)
+        → firstOf (faultOf (firstRefusal (ask a Misplaced ∷ ask b OutOfRange ∷ []))) (faultOf (firstRefusal (ask c TooFewSlots ∷ [])))
+        ≡ faultOf (firstRefusal (ask a Misplaced ∷ ask b OutOfRange ∷ ask c TooFewSlots ∷ []))
+    by true true c = refl
+    by true false c = refl
+    by false b c = refl
 
 pub no-fault : (misplaced out : Bool) (fault : Fault) → fault ≡ firstFault misplaced out → fault ≡ Nothing → out ≡ false
 unfolding firstRefusal
@@ -282,25 +330,60 @@ module _ {text : List ℕ} {at : ℕ} {p : Plan} {r : Line} where
   pub two-formed : (make : ℕ → ℕ → plans.Line) {value : ℕ} {fits : Bool} {then : ℕ} (t : Told text at [] value fits then true)
       → Whole text then p (oneNumber (make (t .number))) r → Whole text at p (twoNumbers make) r
   two-formed make t =
-      whole-after (t .fields) (oneNumber (make (t .number))) (twoNumbers make) (second-form make (t .digits) (t .number) (t .says))
+      whole-after (t .fields) (oneNumber (make (t .number))) (twoNumbers make) (second-number make (t .digits) (t .number) (t .says))
 
-module _ (s : Sofar) (p : Plan) (sums : Sums s p) (next : ℕ) where
-  -- the workers, as 64 bits hold them
-  pub workers-judged : (m n : ℕ) (out : Bool) (fault : Fault) → n ≡ clipped m → out ≡ not (within 1 32 n)
-      → fault ≡ firstFault (not (eqb (s .workers) 0)) out
-      → Judged p (workersLine p m) next (record { kind = kinds.Workers; first = n; second = 0; fault = fault; next = next; more = false })
-  workers-judged m n out fault is range e =
-      record {
+  -- a W line, by its workers: it ends, or goes on
+  pub first-formed : (make : ℕ → Form → plans.Line) {value : ℕ} {fits : Bool} {next : ℕ} (t : Told text at [] value fits next false)
+      → Judged p (make (t .number) forms.First) next r → Whole text at p (inForm make) r
+  first-formed make t = so-formed (inForm make) (make (t .number) forms.First) (t .digits ∷ []) (rw (t .says)) (t .fields)
+
+  pub second-formed : (make : ℕ → Form → plans.Line) {value : ℕ} {fits : Bool} {then : ℕ} (t : Told text at [] value fits then true)
+      → Whole text then p (twoNumbers (λ slots capacity. make (t .number) (forms.Second slots capacity))) r
+      → Whole text at p (inForm make) r
+  second-formed make t = whole-after (t .fields) _ (inForm make) (second-form make (t .digits) (t .number) (t .says))
+
+-- a W line, as 64 bits hold its numbers
+abbrev clippedForm : Form → Form
+clippedForm forms.First = forms.First
+clippedForm (forms.Second slots capacity) = forms.Second (clipped slots) (clipped capacity)
+
+sizes-clipped : (form : Form) → sizesInRange (clippedForm form) ≡ sizesInRange form
+sizes-clipped forms.First = refl
+sizes-clipped (forms.Second slots capacity) = rw (range-clipped slots 64 (omega arith), range-clipped capacity 16 (omega arith))
+
+form-low : (form : Form) → sizesInRange form ≡ true → clippedForm form ≡ form
+form-low forms.First e = refl
+form-low (forms.Second slots capacity) e =
+    rw (
+      within-low slots 1 64 (omega arith) (both-left (within 1 64 slots) (within 1 16 capacity) e) .0,
+      within-low capacity 1 16 (omega arith) (both-right (within 1 64 slots) (within 1 16 capacity) e) .0,
+    )
+
+module _ (p : Plan) (n : ℕ) (form : Form) (next : ℕ) where
+  in-range : within 1 32 n && sizesInRange form ≡ true → (clipped n ≡ n) × (n ≤ 32) × (clippedForm form ≡ form)
+  in-range e =
+      let (is, few) = within-low n 1 32 (omega arith) (both-left (within 1 32 n) (sizesInRange form) e) in
+      (is, few, form-low form (both-right (within 1 32 n) (sizesInRange form) e))
+
+  same-fault : faultIn (workersLine p (clipped n) (clippedForm form)) ≡ faultIn (workersLine p n form)
+  unfolding firstRefusal
+  same-fault =
+      ways (within 1 32 n && sizesInRange form) (λ e. let low = in-range e in rw (low .0, low .2))
+      (λ e. rw (range-clipped n 32 (omega arith), sizes-clipped form, e))
+
+  pub workers-judged : {m : ℕ} {f : Form} {r : Line} → m ≡ clipped n → f ≡ clippedForm form → r ≡ readWorkers p m f next
+      → Judged p (workersLine p n form) next r
+  workers-judged a b e =
+      rw (e, a, b)
+      (record {
         after = refl;
         ended = refl;
         whole = tt;
-        judged =
-            e ∙ fault-is (atStart p) (within 1 32 m) (not (eqb (s .workers) 0)) out (rw (sums .workers))
-            (range ∙ out-of m n 32 is (omega arith));
+        judged = same-fault;
         makes = λ h.
-            let low = within-low m 1 32 (omega arith) (in-range (atStart p) (within 1 32 m) h) in
-            (rw (is, low .0), rw (is, low .0) (low .1));
-      }
+            let low = in-range (granted (workersLine p n form .asks) h .1 .0) in
+            (rw (low .0, low .2), rw (low .0) (low .1));
+      })
 
 -- an order line, where the place of a line is told
 module _ (p : Plan) (misplaced : Bool) (at-start : misplaced ≡ atStart p) (next : ℕ) where
@@ -317,7 +400,7 @@ module _ (p : Plan) (misplaced : Bool) (at-start : misplaced ≡ atStart p) (nex
           judged = o .judged ∙ fault;
           makes = λ h.
               let tells = o .tells (fault ∙ ap faultOf h) in
-              let is-kept = kept (in-range (not (atStart p)) range h) in
+              let is-kept = kept (granted (orderLine p range order .asks) h .1 .0) in
               rw (o .kind) (order, refl, is-kept .0 ∙ sym (tells .0), is-kept .1 ∙ sym (tells .1));
         }
 
@@ -327,7 +410,7 @@ module _ (p : Plan) (misplaced : Bool) (at-start : misplaced ≡ atStart p) (nex
       → Judged p (countLine p inRange most order m) next r
   count-judged inRange most order m n who before far out small is b f e coded o =
       order-judged out o (inRange && within 1 most m) (order m)
-      (rw (e, b, f ∙ out-of m n most is (omega arith)) (not-both inRange (within 1 most m)))
+      (rw (e, b, f, is, range-clipped m most (omega arith)) (not-both inRange (within 1 most m)))
       (λ h.
       let same : n ≡ m = is ∙ within-low m 1 most (omega arith) (both-right inRange (within 1 most m) h) .0 in
       rw same (coded (both-left inRange (within 1 most m) h) m))

@@ -10,9 +10,11 @@ use Rattle.refusals.specs.declared.Refusal.{Refusal}
 use Rattle.refusals.specs.declared.Refusal.the-variants.{Malformed, OutOfRange, Misplaced}
 use Rattle.text.specs.Text.{within, numberOf}
 use Rattle.text.specs.Fields.{First, unended, first, firstLine, Fields, clipped}
+use Rattle.plan.specs.declared.form.Form.{Form}
+use Rattle.plan.specs.declared.form.Form.the-variants.{Second}
 use Rattle.plan.specs.Plan.{Task, Order, Plan, withWorkers, withOrder}
 use Rattle.plan.specs.Line as plans
-use Rattle.plan.specs.Line.{'T', ask, atStart, hasOrders, isLabel, labelAndCost, orderLine, taskLine, lineOfFields}
+use Rattle.plan.specs.Line.{'T', ask, atStart, hasOrders, isLabel, labelAndCost, workersLine, orderLine, taskLine, lineOfFields}
 use Rattle.plan.specs.Reading.{firstRefusal}
 use Rattle.kept.specs.Layout as layout
 use Rattle.kept.specs.Tasks.{Placed, spare, rowOf, Labelled}
@@ -27,6 +29,7 @@ use Rattle.lines.specs.declared.line.Line.{Line}
 -- p is what the lines so far come to
 pub record Sums (s : Sofar) (p : Plan) : Type 0 where
   pub workers : s .workers ≡ p .workers
+  pub form : s .form ≡ p .form
   pub tasks : s .tasks ≡ length (p .tasks)
   pub orders : s .orders ≡ length (p .orders)
 
@@ -62,12 +65,12 @@ Formless form (first fs rest) = form fs ≡ none
 
 -- what a line without fault makes of p, with so few workers that the code of an order line fits; a task's is known once its accesses are
 abbrev pub Makes : Kind → ℕ → ℕ → Plan → Plan → Type 0
-Makes kinds.Workers n second p q = (q ≡ withWorkers p n) × (n ≤ 32)
+Makes (kinds.Workers form) n second p q = (q ≡ withWorkers p n form) × (n ≤ 32)
 Makes kinds.Task n second p q = ⊥
 Makes kinds.Order code seed p q = (o : Order) × (q ≡ withOrder p o) × (codeOf o ≡ code) × (seedOf o ≡ seed)
 
 abbrev pub IsWhole : Kind → Type 0
-IsWhole kinds.Workers = Unit {0}
+IsWhole (kinds.Workers form) = Unit {0}
 IsWhole kinds.Task = ⊥
 IsWhole kinds.Order = Unit {0}
 
@@ -85,6 +88,15 @@ pub record Formed (text : List ℕ) (at : ℕ) (p : Plan) (form : List (List ℕ
 pub data Whole (text : List ℕ) (at : ℕ) (p : Plan) (form : List (List ℕ) → Option plans.Line) (r : Line) : Type 0 where
   malformed : r ≡ wrongLine → Formless form (firstLine (drop at text)) → Whole text at p form r
   formed : Formed text at p form r → Whole text at p form r
+
+-- the answer for a W line of a form, which ends before `next`
+abbrev pub readWorkers : Plan → ℕ → Form → ℕ → Line
+readWorkers p n form next =
+    record { kind = kinds.Workers form; first = n; second = 0; fault = faultIn (workersLine p n form); next = next; more = false }
+
+-- the W line of the second form, by its numbers
+abbrev pub secondForm : Plan → ℕ → ℕ → ℕ → plans.Line
+secondForm p n slots capacity = workersLine p n (Second slots capacity)
 
 -- an order line with this fault: without one it tells what is kept of it
 pub record Ordered (fault : Fault) (code seed next : ℕ) (r : Line) : Type 0 where

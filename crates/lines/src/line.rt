@@ -4,13 +4,17 @@ ghost use mathlib.Core.Bool.{Bool, true, false, not, _||_};
 ghost use Prim.Native.Nat.{ℕ, _+_, _*_, _≤_, _<_};
 ghost use lib.ListN.{length};
 ghost use Rattle.text.specs.Text.{within};
+ghost use Rattle.text.specs.Fields.{clipped};
 ghost use Rattle.plan.specs.Plan.{Order, Plan};
-ghost use Rattle.plan.specs.Line.{oneNumber, twoNumbers, atStart, workersLine, roundsLine, picksLine, seededLine};
+ghost use Rattle.plan.specs.Line.{oneNumber, twoNumbers, inForm, atStart, sizesInRange, workersLine, roundsLine, picksLine, seededLine};
 ghost use Rattle.kept.specs.Layout as lay;
-ghost use Rattle.lines.specs.Lines.{Sums, wrongLine, firstFault, Whole, Ordered, Coded, countLine, bareRow, TaskHead, LineAt};
+ghost use Rattle.lines.specs.Lines.{Sums, wrongLine, faultIn, firstFault, Whole, readWorkers, secondForm, Ordered, Coded, countLine};
+ghost use Rattle.lines.specs.Lines.{bareRow, TaskHead, LineAt};
 use kept::layout;
 use plan::field::Label;
 use plan::field::read_label;
+use plan::form::Form;
+use plan::form::slots_of;
 use refusals::Refusal;
 use text::read::Number;
 use text::read::TAB;
@@ -31,6 +35,10 @@ const S: u64 = 83;
 // The ranges' ends.
 const MOST_WORKERS: u64 = 32;
 
+const MOST_SLOTS: u64 = 64;
+
+const MOST_CAPACITY: u64 = 16;
+
 const MOST_COST: u64 = 1000;
 
 const MOST_PICKS: u64 = 4096;
@@ -47,14 +55,15 @@ pub enum Fault {
 
 // What a line says besides its fault.
 pub enum Kind {
-    Workers,
+    Workers(Form),
     Task,
     Order,
 }
 
-// What the lines so far come to: the workers (0 before the W line), how many tasks, how many order lines.
+// What the lines so far come to: the workers (0 before the W line) and the form, how many tasks, how many order lines.
 pub struct Sofar {
     pub workers: u64,
+    pub form: Form,
     pub tasks: usize,
     pub orders: usize,
 }
@@ -115,15 +124,60 @@ fn first_fault(misplaced: bool, out: bool) -> Fault
     Fault::Nothing
 }
 
-// W: first, and once.
-fn workers_line(text: &[u8], at: usize, sofar: Sofar) -> Line
+// The numbers that only the second form has.
+fn sizes_outside(form: Form) -> bool
+    ensures { λ r. ⌜ r ≡ not (sizesInRange form) ⌝ }
+{
+    match form {
+        Form::First => false,
+        Form::Second { slots, capacity } => {
+            either(
+                outside(1, MOST_SLOTS, slots),
+                outside(1, MOST_CAPACITY, capacity),
+            )
+        }
+    }
+}
+
+// The fault of a W line: its place, its numbers, and then fewer slots than workers.
+fn workers_fault(workers: u64, form: Form, misplaced: bool) -> Fault
+    ensures { λ r. ⌜ ((p : Plan) → misplaced ≡ not (atStart p) → r ≡ faultIn (workersLine p workers form)) ⌝ }
+{
+    let out = either(outside(1, MOST_WORKERS, workers), sizes_outside(form));
+    let fault = first_fault(misplaced, out);
+    if let Fault::Is(_) = fault {
+        return fault;
+    }
+    if slots_of(form) < workers {
+        return Fault::Is(Refusal::TooFewSlots);
+    }
+    fault
+}
+
+// A W line that is of this form.
+fn form_line(workers: u64, form: Form, misplaced: bool, next: usize) -> Line
+    ensures { λ r. ⌜ ((p : Plan) → misplaced ≡ not (atStart p) → r ≡ readWorkers p workers form next) ⌝ }
+{
+    Line {
+        kind: Kind::Workers(form),
+        first: workers,
+        second: 0,
+        fault: workers_fault(workers, form, misplaced),
+        next,
+        more: false,
+    }
+}
+
+// The queue capacity, which ends a W line.
+fn capacity_line(text: &[u8], at: usize, workers: u64, slots: u64, misplaced: bool) -> Line
     requires { ⌜ at ≤ length (now text) ⌝ }
-    ensures { λ r. ⌜ ((p : Plan) → Sums sofar p → Whole (now (text .entry)) at p (oneNumber (workersLine p)) r) ⌝ }
+    ensures { λ r. ⌜ ((p : Plan) (n m : ℕ) → misplaced ≡ not (atStart p) → workers ≡ clipped n → slots ≡ clipped m
+        → Whole (now (text .entry)) at p (oneNumber (secondForm p n m)) r) ⌝ }
 {
     match read_number(text, at) {
         Number::Malformed => wrong(),
         Number::Is {
-            value,
+            value: capacity,
             fits: _,
             next,
             more,
@@ -131,14 +185,51 @@ fn workers_line(text: &[u8], at: usize, sofar: Sofar) -> Line
             if more {
                 return wrong();
             }
-            Line {
-                kind: Kind::Workers,
-                first: value,
-                second: 0,
-                fault: first_fault(sofar.workers != 0, outside(1, MOST_WORKERS, value)),
-                next,
-                more: false,
+            form_line(workers, Form::Second { slots, capacity }, misplaced, next)
+        }
+    }
+}
+
+// The slots, after the workers.
+fn slots_line(text: &[u8], at: usize, workers: u64, misplaced: bool) -> Line
+    requires { ⌜ at ≤ length (now text) ⌝ }
+    ensures { λ r. ⌜ ((p : Plan) (n : ℕ) → misplaced ≡ not (atStart p) → workers ≡ clipped n
+        → Whole (now (text .entry)) at p (twoNumbers (secondForm p n)) r) ⌝ }
+{
+    match read_number(text, at) {
+        Number::Malformed => wrong(),
+        Number::Is {
+            value: slots,
+            fits: _,
+            next,
+            more,
+        } => {
+            if !more {
+                return wrong();
             }
+            capacity_line(text, next, workers, slots, misplaced)
+        }
+    }
+}
+
+// W: first, and once; a line that goes on after the workers is of the second form.
+fn workers_line(text: &[u8], at: usize, sofar: Sofar) -> Line
+    requires { ⌜ at ≤ length (now text) ⌝ }
+    ensures { λ r. ⌜ ((p : Plan) → Sums sofar p → Whole (now (text .entry)) at p (inForm (workersLine p)) r) ⌝ }
+{
+    match read_number(text, at) {
+        Number::Malformed => wrong(),
+        Number::Is {
+            value: workers,
+            fits: _,
+            next,
+            more,
+        } => {
+            let misplaced = sofar.workers != 0;
+            if more {
+                return slots_line(text, next, workers, misplaced);
+            }
+            form_line(workers, Form::First, misplaced, next)
         }
     }
 }

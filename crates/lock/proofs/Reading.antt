@@ -17,9 +17,9 @@ getD-any (x ∷ xs) zero d e h = refl
 getD-any (x ∷ xs) (suc i) d e h = getD-any xs i d e (omega arith)
 
 module _ (N head tail : ℕ) (wait registrations tickets tasks : List ℕ) where
-  module _ (t w at : ℕ) (slot : at ≡ t % N) (below : at < N) (fits : N ≤ length wait) where
+  module _ (t w at : ℕ) (slot : at ≡ t % N) (below : at < length wait) where
     slot-read : getD wait at 0 ≡ getD wait (t % N) N
-    slot-read = getD-any wait at 0 N (omega arith) ∙ ap (λ (k : ℕ). getD wait k N) slot
+    slot-read = getD-any wait at 0 N below ∙ ap (λ (k : ℕ). getD wait k N) slot
 
     pub looks-early : getD wait at 0 < t → notYet ≡ look N (lockOf N head tail wait registrations tickets tasks) t w
     unfolding look turn

@@ -42,6 +42,11 @@ pub start-ends : (N : ℕ) → (start N .head ≡ N) × (start N .tail ≡ suc N
 unfolding start
 start-ends N = (refl, refl)
 
+-- every wait slot holds N, and no slot a registration
+pub start-slots : (N k : ℕ) → (start N .wait k ≡ N) × (start N .registration k ≡ EMPTY)
+unfolding start
+start-slots N k = (refl, refl)
+
 -- the cells are empty
 pub start-cells : (N v : ℕ) → (start N .cellTicket v ≡ EMPTY) × (start N .cellTask v ≡ EMPTY)
 unfolding start
@@ -165,6 +170,20 @@ module _ {W N : ℕ} {l : Lock} {st : ℕ → Stand} (k : Kept W N l st) where
   pub waits : (w t : ℕ) → st w ≡ waiting t
       → (l .tail ≤ t) ⊎ ((t < l .tail) × InCell l st w t (l .cellTask w)) ⊎ ((suc t ≡ l .tail) × (l .cellTicket w ≢ t))
   waits = Laws.waits (k .inv)
+
+  -- ---- slots and laps
+
+  -- the given tickets from the newest below the tail on have each a slot of its own
+  pub slot-one : (s t : ℕ) → l .tail ≤ suc s → s < l .head → l .tail ≤ suc t → t < l .head → s % N ≡ t % N → s ≡ t
+  slot-one = Laws.slot-one (k .inv)
+
+  -- the slot of a ticket that was not let in has the registration of a worker with it exactly while that worker waits with it
+  pub registered-iff : (t : ℕ) → l .tail ≤ t → (v : ℕ) → (l .registration (t % N) ≡ join t v) ↔ ((v < W) × (st v ≡ waiting t))
+  registered-iff = Laws.registered-iff (k .inv)
+
+  -- and while nobody does, what stands there is below the ticket: a registration of an earlier lap, or none
+  pub unregistered-iff : (t : ℕ) → l .tail ≤ t → (l .registration (t % N) < t) ↔ ((v : ℕ) → st v ≢ waiting t)
+  unregistered-iff = Laws.unregistered-iff (k .inv)
 
   -- ---- the front waiter
 

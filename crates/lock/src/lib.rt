@@ -63,11 +63,15 @@ fn worker_in(registration: u64, ticket: Ticket) -> Worker
 // What a registration or a cell holds before it is written.
 const EMPTY: u64 = 0;
 
-// The slot of a ticket.
-fn slot(ticket: Ticket, slots: u64) -> usize
+// The slot of a ticket. A ring whose size is a power of two needs no division.
+pub fn slot(ticket: Ticket, slots: u64) -> usize
     requires { ⌜ 0 < slots ⌝ }
     ensures { λ r. ⌜ (r ≡ ticket .0 % slots) × (r < slots) ⌝ }
 {
+    let mask = slots - 1;
+    if slots & mask == 0 {
+        return (ticket.0 & mask) as usize;
+    }
     (ticket.0 % slots) as usize
 }
 
@@ -156,8 +160,27 @@ pub fn look(
         (lockOf slots head tail (now (wait .entry)) registrations (now («cell_tickets» .entry)) (now («cell_tasks» .entry)))
         (ticket .0) (worker .0)) ⌝ }
 {
-    let t = ticket.0;
     let at = slot(ticket, slots);
+    look_at(at, wait, cell_tickets, cell_tasks, ticket, worker)
+}
+
+// The same, by a worker that has its ticket's slot in hand.
+pub fn look_at(
+    at: usize,
+    wait: &[u64],
+    cell_tickets: &[u64],
+    cell_tasks: &[u64],
+    ticket: Ticket,
+    worker: Worker,
+) -> Looked
+    requires { ⌜ (at < length (now wait)) × (worker .0 < length (now «cell_tickets»)) × (worker .0 < length (now «cell_tasks»))
+        × ((slots : ℕ) × (at ≡ ticket .0 % slots)) ⌝ }
+    ensures { λ r. ⌜ ((slots : ℕ) → at ≡ ticket .0 % slots → (head tail : ℕ) (registrations : List ℕ) →
+        seen r ≡ L.look slots
+        (lockOf slots head tail (now (wait .entry)) registrations (now («cell_tickets» .entry)) (now («cell_tasks» .entry)))
+        (ticket .0) (worker .0)) ⌝ }
+{
+    let t = ticket.0;
     let w = worker.0 as usize;
     if wait[at] < t {
         return Looked::NotYet;

@@ -20,13 +20,13 @@ use Rattle.machine.specs.State.{Place, idle, serving, handing, leaving}
 use Rattle.machine.specs.Event.{Handed, handedBy, Event, fills, takes, takesNone, handsOver, leaves, event}
 use Rattle.machine.specs.Step.{lockOp, taskOp, effect, giverAfter, lockAfter}
 use Rattle.machine.specs.Events.{event-fill, event-take-alone, event-take-served, event-take-none, event-hand-over, event-leave}
-use Rattle.steps.specs.Layout.{SERVING, HANDING, LEAVING, IDLE, SLOTS, READY, GIVERS}
+use Rattle.steps.specs.Layout.{SERVING, HANDING, LEAVING, IDLE, READY, GIVERS}
 use Rattle.steps.specs.declared.Counts.{Counts}
-use Rattle.steps.specs.Memory.{part, station, Stationed, Memory, withEnds, oneTaken, Given, Able}
+use Rattle.steps.specs.Memory.{part, station, Stationed, Slotted, Memory, withEnds, oneTaken, Given, Able}
 use Rattle.steps.proofs.Acting.{acts-hold, tasks-still, own-stationed}
 use Rattle.lock_steps.specs.Lent.{lockIn, handedIn, withHanded, withServed}
 use Rattle.lock_steps.specs.Going.{Gone, Received, givenBy, handedOn}
-use Rattle.lock_steps.proofs.FromLock.{Filled, lockWith, after-fill, after-pass, after-leave}
+use Rattle.lock_steps.proofs.FromLock.{slots-are, Filled, lockWith, after-fill, after-pass, after-leave}
 use Rattle.lock_steps.proofs.Stepping.{tasks-of, codeIn, numberIn, Leads, workers-few, tasks-few, place-is, goes, tasks-after}
 
 -- the first of the ready tasks and those behind it
@@ -76,20 +76,20 @@ module _ {m : Memory} {own : List ℕ} {w : ℕ} (a : Able m own w) where
 
   -- the lock in memory
   abbrev lockHere : L.Lock
-  lockHere = lockIn (m .counts .ends) (m .wait) (m .registrations) (m .tickets) (m .cells)
+  lockHere = lockIn (m .counts .slots) (m .counts .ends) (m .wait) (m .registrations) (m .tickets) (m .cells)
 
   -- what the hand-over gives in the lock of the state
   abbrev handsOn : Option Handed
   handsOn = handedBy (a .c) (a .s) w
 
-  pub hands-on : handedIn lockHere w ≡ handsOn
-  hands-on = rw (← a .holds .lock, a .fit .sized .slots) refl
+  pub hands-on : handedIn (m .counts .slots) lockHere w ≡ handsOn
+  hands-on = rw (← a .holds .lock, ← slots-are a) refl
 
   -- the worker let in, and the task that is given
-  pub let-in-few : (v : ℕ) → L.front SLOTS lockHere ≡ some v → v < 32
-  let-in-few v e = workers-few (a .fit) v (a .fit .front v (rw (← a .holds .lock, a .fit .sized .slots) e))
+  pub let-in-few : (v : ℕ) → L.front (m .counts .slots) lockHere ≡ some v → v < 32
+  let-in-few v e = workers-few (a .fit) v (a .fit .front v (rw (← a .holds .lock, ← slots-are a) e))
 
-  pub handed-few : (h : Handed) → handedIn lockHere w ≡ some h → h .task < 128
+  pub handed-few : (h : Handed) → handedIn (m .counts .slots) lockHere w ≡ some h → h .task < 128
   handed-few h e = tasks-few (a .fit) (h .task) (a .fit .handed h (sym hands-on ∙ e))
 
   -- the ready list and the givers in the device's array, with what is handed over
@@ -115,8 +115,9 @@ module _ {m : Memory} {own : List ℕ} {w : ℕ} (a : Able m own w) where
       withHanded m (withEnds (m .counts) ends) written (m .registrations) (m .tickets) (m .cells) (handedOn (m .device) handsOn)
 
   module _ (r : Counts) (written device : List ℕ) (numbers : r ≡ withEnds (m .counts) (r .ends))
-      (lock : lockIn (r .ends) written (m .registrations) (m .tickets) (m .cells) ≡ L.handOver SLOTS lockHere)
-      (given : device ≡ handedOn (m .device) (handedIn lockHere w)) where
+      (lock : lockIn (m .counts .slots) (r .ends) written (m .registrations) (m .tickets) (m .cells)
+      ≡ L.handOver (m .counts .slots) lockHere)
+      (given : device ≡ handedOn (m .device) (handedIn (m .counts .slots) lockHere w)) where
     handed-memory : withHanded m r written (m .registrations) (m .tickets) (m .cells) device ≡ handedMemory (r .ends) written
     handed-memory =
         ap₂ (λ (n : Counts) (list : List ℕ). withHanded m n written (m .registrations) (m .tickets) (m .cells) list) numbers
@@ -127,14 +128,15 @@ module _ {m : Memory} {own : List ℕ} {w : ℕ} (a : Able m own w) where
         → effect (a .c) (a .s) w e
         ≡ record { place = to; queue = a .s .queue; readyList = a .s .readyList; giver = giverAfter (a .c) (a .s) handsOn }
         → lockWith a (r .ends) written (m .registrations) (m .tickets) (m .cells) ≡ lockAfter (a .c) (a .s .lock) w (lockOp e)
-        → (next : List ℕ) → part next ≡ part own → Stationed (station next) to (a .s .queue w)
+        → (next : List ℕ) → part next ≡ part own → Stationed (station next) to (a .s .queue w) → Slotted (a .c .slots) (station next) to
         → Leads a (withHanded m r written (m .registrations) (m .tickets) (m .cells) device) next
-    hands-and-goes e is nothing to effects after next kept there =
+    hands-and-goes e is nothing to effects after next kept there slot =
         rw handed-memory
         (acts-hold (a .holds) e is (handedMemory (r .ends) written) next after
         (tasks-still (a .holds) e is own next (a .lent) kept nothing)
-        refl
+        (refl, refl, refl)
         (rw effects there)
+        (rw effects slot)
         (λ u d. rw effects)
         (a .holds .device .ready-at)
         (rw effects (list-on handsOn))
@@ -146,14 +148,14 @@ module _ {m : Memory} {own : List ℕ} {w : ℕ} (a : Able m own w) where
     hand-acts place next gone =
         hands-and-goes (handsOver (numberIn own) handsOn) (event-hand-over (a .c) (a .s) w (place-is a HANDING place)) refl
         (serving (suc (numberIn own))) refl (after-pass a (r .ends) written lock)
-        next (gone .kept) (gone .there _ _ _ (own-stationed a) (refl, omega arith))
+        next (gone .kept) (gone .there _ _ _ (own-stationed a) (refl, omega arith)) tt
 
     pub leave-acts : codeIn own ≡ LEAVING → (next : List ℕ) → Gone own next IDLE 0
         → Leads a (withHanded m r written (m .registrations) (m .tickets) (m .cells) device) next
     leave-acts place next gone =
         hands-and-goes (leaves handsOn) (event-leave (a .c) (a .s) w (place-is a LEAVING place)) refl idle refl
         (after-leave a (r .ends) written lock)
-        next (gone .kept) (gone .there _ _ _ (own-stationed a) refl)
+        next (gone .kept) (gone .there _ _ _ (own-stationed a) refl) tt
 
   -- ---- serving
 
@@ -172,7 +174,7 @@ module _ {m : Memory} {own : List ℕ} {w : ℕ} (a : Able m own w) where
         let empty : a .s .readyList ≡ [] = sym none-listed ∙ entries-none (λ j. getD (m .device) j 0) READY (m .counts .«ready_at») in
         goes a takesNone (event-take-none (a .c) (a .s) w serves empty) refl leaving refl
         (m .counts .ends) (m .wait) (m .registrations) (m .tickets) (m .cells) (a .holds .lock)
-        next (gone .kept) (gone .there _ _ _ (own-stationed a) refl)
+        next (gone .kept) (gone .there _ _ _ (own-stationed a) refl) tt
 
     -- the first ready task goes to the front waiter, or the owner takes it
     module _ (any : 0 < m .counts .ready) where
@@ -207,8 +209,9 @@ module _ {m : Memory} {own : List ℕ} {w : ℕ} (a : Able m own w) where
             acts-hold (a .holds) e is (withServed m taken (m .registrations) stamped filled (m .device) rows) next
             (after-fill a v task fill)
             (tasks-after a e is (TH.holds task) refl rows next (rw (gone .kept) (held (tasks-of m) (part own) (m .counts .picks) w)))
-            refl
+            (refl, refl, refl)
             (gone .there (a .s .place w) (handing (numberIn own)) (a .s .queue w) (own-stationed a) (refl, refl))
+            tt
             (λ u d. refl)
             (mod-lt (m .counts .«ready_at» + 1) (omega arith))
             shorter
@@ -232,8 +235,9 @@ module _ {m : Memory} {own : List ℕ} {w : ℕ} (a : Able m own w) where
           acts-hold (a .holds) e is (withServed m taken (m .registrations) (m .tickets) (m .cells) (givenBy (m .device) task w) rows) next
           (a .holds .lock)
           (tasks-after a e is (TH.takes task) refl rows next (got .does (tasks-of m) .0))
-          refl
+          (refl, refl, refl)
           (got .there (a .s .place w) leaving (a .s .queue w) (own-stationed a) refl)
+          tt
           (λ u d. refl)
           (mod-lt (m .counts .«ready_at» + 1) (omega arith))
           (list-still (m .device) task w (taken .«ready_at») (taken .ready) ∙ shorter)

@@ -1,13 +1,15 @@
 -- A worker's place in its share: what its number says, and a share in which it goes to another.
-use Prim.Native.Nat.{ℕ}
-use mathlib.Core.Path.{_≡_, sym, subst, _∙_}
+use Prim.Native.Nat.{ℕ, _<_}
+use native.Mathlib.Omega.{arith}
+use mathlib.Core.Path.{_≡_, sym, ap, subst, _∙_}
 use mathlib.Core.List.{List, [], _∷_, _++_}
-use lib.ListN.{length, getD}
+use lib.ListN.{length, getD, set, length-set}
+use lib.Seq.{getD-set-same}
 use Rattle.machine.specs.State.{forServing, forAdding, Place, idle, trying, registering, looking, draining, serving, handing, leaving}
-use Rattle.steps.specs.Layout.{shareSize}
+use Rattle.steps.specs.Layout.{shareSize, stationSize, slotAt}
 use Rattle.steps.specs.Codes.{Coded}
-use Rattle.steps.specs.Memory.{part, station, Stationed}
-use Rattle.steps.proofs.Parts.{station-of, part-of, lentPart, withPart, station-long, part-lent, part-back, station-still}
+use Rattle.steps.specs.Memory.{part, station, Stationed, moved}
+use Rattle.steps.proofs.Parts.{station-at, station-of, part-of, lentPart, withPart, station-long, part-lent, part-back, station-still}
 use Rattle.lock_steps.specs.Going.{Gone, ReceivedBy, Received}
 
 -- the place that has code k and number a
@@ -48,6 +50,17 @@ gone own z k a long back goes =
       kept = part-of z (part own) z-long;
       there = λ p to queue h coded. rw (station-of z (part own) z-long) (goes p to queue h coded);
     }
+
+-- it has noted a slot there
+pub noted : (own z : List ℕ) (k a slot : ℕ) → length own ≡ shareSize → z ≡ set (moved (station own) k a) slotAt slot
+    → getD (z ++ part own) slotAt 0 ≡ slot
+noted own z k a slot long is =
+    let went = moved (station own) k a in
+    let room : slotAt < length went = simp length-set (omega (arith, station-long own long)) in
+    let z-long : length z ≡ stationSize = rw is (simp length-set (station-long own long)) in
+    sym (station-at (z ++ part own) slotAt (omega arith))
+    ∙ ap (λ (xs : List ℕ). getD xs slotAt 0) (station-of z (part own) z-long ∙ is)
+    ∙ getD-set-same went slotAt slot 0 room
 
 -- the tasks' part is lent, to receive a task, and given back as y; then the worker goes
 pub received : (own y : List ℕ) → length own ≡ shareSize → (rows after next : List ℕ) (task w time k : ℕ)

@@ -16,7 +16,7 @@ use Rattle.machine.specs.Event.{Event, event}
 use Rattle.machine.specs.Step.{lockOp, taskOp, effect, lockAfter}
 use Rattle.machine.specs.Ranges.{Fit, acted}
 use Rattle.steps.specs.Layout.{placeAt, numberAt}
-use Rattle.steps.specs.Memory.{part, station, Stationed, Memory, withEnds, Holds, Able, Acts}
+use Rattle.steps.specs.Memory.{part, station, Stationed, Slotted, Memory, withEnds, Holds, Able, Acts}
 use Rattle.steps.proofs.Parts.{station-at}
 use Rattle.steps.proofs.Acting.{acts-hold, tasks-still, tasks-able, own-stationed}
 use Rattle.lock_steps.proofs.Places.{placeOf, decoded}
@@ -74,13 +74,14 @@ module _ {m : Memory} {own : List ℕ} {w : ℕ} (a : Able m own w) where
         → effect (a .c) (a .s) w e ≡ record { place = to; queue = a .s .queue; readyList = a .s .readyList; giver = a .s .giver }
         → (ends : Ends) (wait registrations tickets cells : List ℕ)
         → lockOf (a .c .slots) (ends .head .0) (ends .tail .0) wait registrations tickets cells ≡ lockAfter (a .c) (a .s .lock) w (lockOp e)
-        → (next : List ℕ) → part next ≡ part own → Stationed (station next) to (a .s .queue w)
+        → (next : List ℕ) → part next ≡ part own → Stationed (station next) to (a .s .queue w) → Slotted (a .c .slots) (station next) to
         → Leads a (withLock m ends wait registrations tickets cells) next
-    goes nothing to effects ends wait registrations tickets cells lock next kept there =
+    goes nothing to effects ends wait registrations tickets cells lock next kept there slot =
         acts-hold (a .holds) e is (withLock m ends wait registrations tickets cells) next lock
         (tasks-still (a .holds) e is own next (a .lent) kept nothing)
-        refl
+        (refl, refl, refl)
         (rw effects there)
+        (rw effects slot)
         (λ v d. rw effects)
         (a .holds .device .ready-at)
         (rw effects (a .holds .device .ready))

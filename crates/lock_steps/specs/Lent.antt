@@ -6,16 +6,15 @@ use Rattle.lock.specs.Lock as L
 use Rattle.lock.specs.Arrays.{lockOf}
 use Rattle.lock.specs.declared.Ends.{Ends}
 use Rattle.machine.specs.Event.{Handed, handed}
-use Rattle.steps.specs.Layout.{SLOTS}
 use Rattle.steps.specs.Memory.{Memory}
 use Rattle.steps.specs.declared.Counts.{Counts}
 
 -- the lock in what is lent, and what worker w's hand-over of a lock gives
-abbrev pub lockIn : Ends → (wait registrations tickets cells : List ℕ) → L.Lock
-lockIn ends wait registrations tickets cells = lockOf SLOTS (ends .head .0) (ends .tail .0) wait registrations tickets cells
+abbrev pub lockIn : ℕ → Ends → (wait registrations tickets cells : List ℕ) → L.Lock
+lockIn slots ends wait registrations tickets cells = lockOf slots (ends .head .0) (ends .tail .0) wait registrations tickets cells
 
-abbrev pub handedIn : L.Lock → ℕ → Option Handed
-handedIn l w = handed SLOTS l (L.tells SLOTS l w)
+abbrev pub handedIn : ℕ → L.Lock → ℕ → Option Handed
+handedIn slots l w = handed slots l (L.tells slots l w)
 
 -- what an owner needs that hands over
 abbrev pub withHanded : Memory → Counts → (wait registrations tickets cells device : List ℕ) → Memory

@@ -1,14 +1,15 @@
 // The steps of a worker at the lock, and of the lock's owner. They rest on what the lock's and the tasks' functions promise.
 ghost use mathlib.Core.Path.{_≡_};
 ghost use Prim.Native.Nat.{_<_};
-ghost use lib.ListN.{length};
+ghost use lib.ListN.{length, getD};
 ghost use Rattle.memory.specs.Layout as layout;
-ghost use Rattle.steps.specs.Layout.{shareSize};
+ghost use Rattle.steps.specs.Layout.{shareSize, slotAt, LOOKING};
 ghost use Rattle.lock_steps.specs.Going.{Gone, Received};
 use duties::device::receive;
 use memory::layout::SHARE;
 use memory::layout::STATION;
 use steps::station::go;
+use steps::station::wait_with;
 
 pub mod owner; // owner.rt: the owner of the lock
 pub mod wait; // wait.rt: a worker until it owns the lock or has a task
@@ -19,6 +20,15 @@ fn go_to(own: &mut [u64], place: u64, number: u64)
     ensures { λ _. ⌜ Gone (now (own .entry)) (now (own .exit)) place number ⌝ }
 {
     go(&mut own[..STATION], place, number);
+}
+
+// It waits with a ticket, whose slot it notes.
+fn wait_at(own: &mut [u64], ticket: u64, slot: u64)
+    requires { ⌜ length (now own) ≡ shareSize ⌝ }
+    ensures gone { λ _. ⌜ Gone (now (own .entry)) (now (own .exit)) LOOKING ticket ⌝ }
+    ensures slot { λ _. ⌜ getD (now (own .exit)) slotAt 0 ≡ slot ⌝ }
+{
+    wait_with(&mut own[..STATION], ticket, slot);
 }
 
 // It receives a task at a time, and goes to a place that speaks of nothing.

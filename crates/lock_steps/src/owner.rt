@@ -5,7 +5,7 @@ ghost use Prim.Native.Nat.{ℕ, _+_, _^_, _<_};
 ghost use lib.ListN.{length, getD};
 ghost use Rattle.lock.specs.Lock.{handOver};
 ghost use Rattle.memory.specs.Layout as layout;
-ghost use Rattle.steps.specs.Layout.{placeAt, SERVING, HANDING, LEAVING, READY, SLOTS, deviceSize};
+ghost use Rattle.steps.specs.Layout.{placeAt, SERVING, HANDING, LEAVING, READY, deviceSize};
 ghost use Rattle.steps.specs.Memory.{Memory, oneTaken, withEnds, Able, Acts};
 ghost use Rattle.lock_steps.specs.Going.{givenBy, handedOn};
 ghost use Rattle.lock_steps.specs.Lent.{lockIn, handedIn, withHanded, withServed};
@@ -23,7 +23,6 @@ use steps::layout::LEAVING;
 use steps::layout::NUMBER;
 use steps::layout::READY;
 use steps::layout::SERVING;
-use steps::layout::SLOTS;
 use steps::with_ends;
 
 // Without the first ready task.
@@ -73,7 +72,7 @@ pub fn serve_step(
     let task = device[at];
     let served = own[NUMBER];
     if served + 1 < n.workers {
-        let front = lock::front_waiter(SLOTS, n.ends, registrations);
+        let front = lock::front_waiter(n.slots, n.ends, registrations);
         if let Front::Waiter(waiter) = front {
             lock::fill(n.ends, tickets, cells, waiter, task);
             hold(rows, task);
@@ -99,18 +98,20 @@ fn hand_on(
     requires { ⌜ ((m : Memory) × (own : List ℕ)
         × Able (withHanded m n (now wait) (now registrations) (now tickets) (now cells) (now device)) own w) ⌝ }
     ensures numbers { λ r. ⌜ r ≡ withEnds n (r .ends) ⌝ }
-    ensures lock { λ r. ⌜ lockIn (r .ends) (now (wait .exit)) (now (registrations .entry)) (now (tickets .entry)) (now (cells .entry))
-        ≡ handOver SLOTS
-        (lockIn (n .ends) (now (wait .entry)) (now (registrations .entry)) (now (tickets .entry)) (now (cells .entry))) ⌝ }
+    ensures lock { λ r. ⌜
+        lockIn (n .slots) (r .ends) (now (wait .exit)) (now (registrations .entry)) (now (tickets .entry)) (now (cells .entry))
+        ≡ handOver (n .slots)
+        (lockIn (n .slots) (n .ends) (now (wait .entry)) (now (registrations .entry)) (now (tickets .entry)) (now (cells .entry))) ⌝ }
     ensures giver { λ _. ⌜ now (device .exit) ≡ handedOn (now (device .entry))
-        (handedIn (lockIn (n .ends) (now (wait .entry)) (now (registrations .entry)) (now (tickets .entry)) (now (cells .entry))) w) ⌝ }
+        (handedIn (n .slots)
+        (lockIn (n .slots) (n .ends) (now (wait .entry)) (now (registrations .entry)) (now (tickets .entry)) (now (cells .entry))) w) ⌝ }
 {
-    let told = lock::hand_over(SLOTS, n.ends, wait, registrations, Worker(w));
+    let told = lock::hand_over(n.slots, n.ends, wait, registrations, Worker(w));
     let by = told.by;
     let let_in = told.let_in;
     let next = with_ends(n, told.ends);
     if let Front::Waiter(taker) = let_in {
-        let looked = lock::look(SLOTS, wait, tickets, cells, n.ends.tail, taker);
+        let looked = lock::look(n.slots, wait, tickets, cells, n.ends.tail, taker);
         match looked {
             Looked::NotYet => {}
             Looked::Receives(task) => {

@@ -11,6 +11,7 @@ ghost use Rattle.steps.specs.Memory.{Memory, withCounts, Able, Acts};
 ghost use Rattle.lock_steps.specs.Lent.{withRegistrations, withSeen};
 use super::go_to;
 use super::receive_to;
+use super::wait_at;
 use lock::Looked;
 use lock::Ticket;
 use lock::Worker;
@@ -21,7 +22,7 @@ use steps::layout::IDLE;
 use steps::layout::LOOKING;
 use steps::layout::NUMBER;
 use steps::layout::REGISTERING;
-use steps::layout::SLOTS;
+use steps::layout::SLOT;
 use steps::with_ends;
 
 // Takes a ticket: worker 0 only after the last task is created.
@@ -46,8 +47,9 @@ pub fn register_step(n: Counts, registrations: &mut [u64], own: &mut [u64], w: u
         (withRegistrations m n (now (registrations .exit))) (now (own .exit)) w) ⌝ }
 {
     let ticket = own[NUMBER];
-    lock::register(SLOTS, registrations, Ticket(ticket), Worker(w));
-    go_to(own, LOOKING, ticket);
+    lock::register(n.slots, registrations, Ticket(ticket), Worker(w));
+    let slot = lock::slot(Ticket(ticket), n.slots);
+    wait_at(own, ticket, slot as u64);
 }
 
 // Looks whether it is its turn: it receives the task in its cell, or it owns the lock.
@@ -67,7 +69,8 @@ pub fn look_step(
         (withSeen m n (now (wait .entry)) (now (tickets .entry)) (now (cells .entry)) (now (rows .exit))) (now (own .exit)) w) ⌝ }
 {
     let ticket = own[NUMBER];
-    let looked = lock::look(SLOTS, wait, tickets, cells, Ticket(ticket), Worker(w));
+    let at = own[SLOT] as usize;
+    let looked = lock::look_at(at, wait, tickets, cells, Ticket(ticket), Worker(w));
     match looked {
         Looked::NotYet => {}
         Looked::Receives(task) => {

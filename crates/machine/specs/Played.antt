@@ -231,3 +231,68 @@ pub given-to-itself : (giversAfter (with 3 (free [] ∷ [])) untilReady ≡ none
     × (giversAfter (with 3 (free [] ∷ [])) (untilReady ++ 2 ∷ []) ≡ some 2 ∷ [])
 unfolding computing
 given-to-itself = (refl, refl)
+
+-- ---- other rings and queues
+
+abbrev pub sized : (slots capacity : ℕ) → List Task → Setup
+sized slots capacity tasks = record { workers = 2; slots = slots; capacity = capacity; tasks = tasks }
+
+-- as many slots as workers
+abbrev pub tight : Setup
+tight = sized 2 8 (free [] ∷ free [] ∷ [])
+
+-- worker 1 goes through the lock four times, over both slots twice, and finds no task
+abbrev pub twoLaps : List ℕ
+twoLaps = replicate 28 1
+
+abbrev pub laps : List Moment
+laps =
+    -- from the start, and on the third lap: worker 1 is served, looks in vain before the hand-over and receives the task after it
+    record { setup = tight; picks = untilFilled ++ 1 ∷ []; statuses = held ∷ ready ∷ []; flags = [] }
+    ∷ record { setup = tight; picks = twoLaps ++ untilFilled ++ 1 ∷ []; statuses = held ∷ ready ∷ []; flags = [] }
+    ∷ record { setup = tight; picks = twoLaps ++ untilFilled ++ 1 ∷ 0 ∷ 1 ∷ []; statuses = running ∷ ready ∷ []; flags = [] }
+    -- it has a ticket and isn't registered: what it left in that slot on the lap before makes it no waiter, and the owner takes the task
+    ∷ record {
+      setup = tight;
+      picks = twoLaps ++ replicate 9 0 ++ 1 ∷ 0 ∷ 0 ∷ 0 ∷ 0 ∷ [];
+      statuses = running ∷ ready ∷ [];
+      flags = [];
+    }
+    ∷ []
+
+pub lapped : Matches laps
+unfolding computing statusesOf flagsOf
+lapped = (refl, refl, (refl, refl, (refl, refl, (refl, refl, tt))))
+
+-- the head, the tail and both wait slots, before the first pick and after two laps
+pub ring-of-two :
+    (start tight .lock .head ∷ start tight .lock .tail ∷ map (start tight .lock .wait) (0 ∷ 1 ∷ []) ≡ 2 ∷ 3 ∷ 2 ∷ 2 ∷ [])
+    × (after tight twoLaps .lock .head ∷ after tight twoLaps .lock .tail ∷ map (after tight twoLaps .lock .wait) (0 ∷ 1 ∷ [])
+    ≡ 6 ∷ 7 ∷ 6 ∷ 5 ∷ [])
+unfolding computing
+ring-of-two = (refl, refl)
+
+-- ten tasks in a queue of sixteen; in one of nine the tenth finds it full
+abbrev pub deep : List Standing
+deep =
+    record {
+      setup = sized 2 16 (replicate 10 (free []));
+      picks = replicate 30 0;
+      places = idle ∷ idle ∷ [];
+      queues = numbersFrom 0 10 ∷ [] ∷ [];
+      readyList = [];
+      owner = none;
+    }
+    ∷ record {
+      setup = sized 2 9 (replicate 10 (free []));
+      picks = replicate 30 0;
+      places = trying ∷ idle ∷ [];
+      queues = numbersFrom 0 9 ∷ [] ∷ [];
+      readyList = [];
+      owner = none;
+    }
+    ∷ []
+
+pub deep-stood : Stands deep
+unfolding computing owner
+deep-stood = (refl, refl, refl, refl, (refl, refl, refl, refl, tt))

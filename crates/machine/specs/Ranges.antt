@@ -26,8 +26,9 @@ pub use Rattle.machine.specs.Safety.Bounds.{Small, small-start, small-st
 -- the sizes that the layout has room for
 pub record Sized (c : Setup) : Type 0 where
   pub workers : c .workers ≤ 32
-  pub slots : c .slots ≡ 64
-  pub capacity : c .capacity ≡ 8
+  pub ring : 0 < c .slots
+  pub slots : c .slots ≤ 64
+  pub capacity : c .capacity ≤ 16
   pub tasks : length (c .tasks) ≤ 128
   pub accesses : (i : ℕ) → length (taskAt (c .tasks) i .accesses) ≤ 4
 

@@ -1,5 +1,5 @@
 -- What holds of every accepted plan: under every list of picks, and under those of its own order lines.
-use Prim.Native.Nat.{ℕ, _^_, _≤_, _<_, min}
+use Prim.Native.Nat.{ℕ, _+_, _^_, _≤_, _<_, min}
 use mathlib.Core.Path.{_≡_, refl, _∙_}
 use mathlib.Core.Logic.{_⊎_, inl, inr, ⊎-elim}
 use mathlib.Core.Bool.{true, false}
@@ -9,21 +9,36 @@ use lib.ListN.{length, take, length-take, List·getD-eq-default}
 use lib.Seq.{take-take}
 use Rattle.runs.specs.Update.{order}
 use Rattle.runs.specs.Picks.{Picks, Regular}
-use Rattle.plan.specs.Plan.{Plan}
+use Rattle.lock.specs.Promise as Lock
+use Rattle.plan.specs.Plan.{slotsOf, Plan}
 use Rattle.plan.specs.Reading.{accepted, reading}
 use Rattle.plan.specs.Orders.{picksOfAll, picksUpTo}
 use Rattle.plan.specs.Accepted.{WellFormed, accepted-well-formed}
 use Rattle.tasks.specs.Accesses.{taskAt}
+use Rattle.machine.specs.State.{start}
 use Rattle.machine.specs.Step.{finished}
 use Rattle.machine.specs.Ranges.{Sized}
 use Rattle.machine.specs.Safety as Safety
 use Rattle.machine.specs.Safety.Invariant.{Playable}
-use Rattle.machine.specs.Figures.{finishingFigure}
+use Rattle.machine.specs.Figures.{waitingFigure, finishingFigure}
 use Rattle.machine.specs.WholeRuns.{WholeRun, whole-runs}
 use Rattle.machine.specs.Givers.{Givers, givers}
 use Rattle.orders.specs.Reached.{setupOf, reached}
 use Rattle.orders.specs.Picked.{picks-below}
 use Rattle.orders.specs.Sizes.{picks-few}
+
+-- head and all wait slots start at the number of slots, the tail one above
+pub start-values : (p : Plan) (k : ℕ) → let l = start (setupOf p) .lock in
+    (l .head ≡ slotsOf (p .form)) × (l .tail ≡ slotsOf (p .form) + 1) × (l .wait k ≡ slotsOf (p .form))
+unfolding start
+start-values p k =
+    let (head, tail) = Lock.start-ends (slotsOf (p .form)) in
+    (head, omega (arith, tail), Lock.start-slots (slotsOf (p .form)) k .0)
+
+-- both figures are those of the workers and the tasks, whatever the form
+pub same-figures : (p q : Plan) → p .workers ≡ q .workers → p .tasks ≡ q .tasks → (B d : ℕ)
+    → (waitingFigure (setupOf p) B d ≡ waitingFigure (setupOf q) B d) × (finishingFigure (setupOf p) B ≡ finishingFigure (setupOf q) B)
+same-figures p q workers tasks B d = rw (workers, tasks) (refl, refl)
 
 module _ (text : List ℕ) (p : Plan) (e : reading text ≡ accepted p) where
   formed : WellFormed p
@@ -33,8 +48,8 @@ module _ (text : List ℕ) (p : Plan) (e : reading text ≡ accepted p) where
   playable =
       record {
         workers = formed .workers-some;
-        ring = omega (arith, formed .workers-few);
-        room = omega arith;
+        ring = formed .slots-enough;
+        room = formed .capacity-some;
         distinct = λ i l. formed .tasks i l _ .addresses-once;
       }
 
@@ -70,6 +85,7 @@ module _ (text : List ℕ) (p : Plan) (e : reading text ≡ accepted p) where
       let (a, b) = Safety.picks-counted (setupOf p) playable (picksUpTo limit p) (own-picks limit) in
       let (h, t, _) = Safety.ends-bounded (setupOf p) playable (picksUpTo limit p) (own-picks limit) in
       let few = picks-few text p e limit in
+      let slots = formed .slots-few in
       (omega arith, omega arith, omega arith)
 
   -- picks stop at the limit, the end of the order or when finished, whichever is first: each one taken finds a state that isn't finished
@@ -95,4 +111,11 @@ module _ (text : List ℕ) (p : Plan) (e : reading text ≡ accepted p) where
   -- the plan is within the sizes that the layout in memory has room for
   pub sized : Sized (setupOf p)
   sized =
-      record { workers = formed .workers-few; slots = refl; capacity = refl; tasks = formed .tasks-few; accesses = few-accesses }
+      record {
+        workers = formed .workers-few;
+        ring = omega (arith, formed .workers-some, formed .slots-enough);
+        slots = formed .slots-few;
+        capacity = formed .capacity-few;
+        tasks = formed .tasks-few;
+        accesses = few-accesses;
+      }

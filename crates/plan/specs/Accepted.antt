@@ -1,6 +1,6 @@
 -- A text that is accepted means a well-formed plan, with no more order lines than its length has room for.
 use Prim.Native.Nat.{ℕ, zero, suc, _+_, _*_, _^_, _≤_, _<_}
-use mathlib.Core.Path.{_≡_, refl, sym}
+use mathlib.Core.Path.{_≡_, refl}
 use mathlib.Core.Bool.{Bool, true, false, cond, not, _&&_, _||_, and-eq-true-iff}
 use mathlib.Core.List.{List, [], _∷_, _++_, map}
 use mathlib.Core.Option.{Option, none, some, Option·map, Option·some-ne-none}
@@ -14,10 +14,12 @@ use Rattle.runs.specs.Every.{every}
 use Rattle.runs.specs.Update.{clash}
 use Rattle.text.specs.FieldLaws.{some-part}
 use Rattle.text.specs.Text.{lineFeed, tab, within, allOf, onFirst, split, numberOf}
-use Rattle.plan.specs.Plan.{Access, Task, Order, picks, rounds, seeded, Plan, emptyPlan}
-use Rattle.plan.specs.Line.{'P', 'R', 'S', 'T', 'W', Ask, Line, atStart, hasOrders, repeats, isLabel, accessOf}
+use Rattle.plan.specs.declared.form.Form.{Form}
+use Rattle.plan.specs.declared.form.Form.the-variants.{First, Second}
+use Rattle.plan.specs.Plan.{Access, Task, Order, picks, rounds, seeded, slotsOf, capacityOf, Plan, emptyPlan}
+use Rattle.plan.specs.Line.{'P', 'R', 'S', 'T', 'W', Ask, Line, atStart, hasOrders, repeats, sizesInRange, isLabel, accessOf}
 use Rattle.plan.specs.Line.{workersLine, taskLine, orderLine, picksLine, roundsLine, seededLine}
-use Rattle.plan.specs.Line.{oneNumber, withBoth, twoNumbers, withCost, labelAndCost, lineBy, lineOfFields, lineOf}
+use Rattle.plan.specs.Line.{oneNumber, withBoth, twoNumbers, inForm, withCost, labelAndCost, lineBy, lineOfFields, lineOf}
 use Rattle.plan.specs.Reading.{Reading, accepted, refused, firstRefusal, readLine, readEnd, readLines, isTooLong, reading}
 
 -- each element of a list, by its number
@@ -40,6 +42,10 @@ OrderFormed W (seeded seed n) = (seed < 2 ^ 64) × (1 ≤ n) × (n ≤ 1000000)
 pub record WellFormed (p : Plan) : Type 0 where
   pub workers-some : 1 ≤ p .workers
   pub workers-few : p .workers ≤ 32
+  pub slots-enough : p .workers ≤ slotsOf (p .form)
+  pub slots-few : slotsOf (p .form) ≤ 64
+  pub capacity-some : 1 ≤ capacityOf (p .form)
+  pub capacity-few : capacityOf (p .form) ≤ 16
   pub tasks-few : length (p .tasks) ≤ 128
   pub tasks : Each TaskFormed (p .tasks)
   pub orders : Each (OrderFormed (p .workers)) (p .orders)
@@ -87,10 +93,15 @@ split-size separator (b ∷ bs) =
 
 -- ---- what is read so far
 
+-- slots and capacity for so many workers
+abbrev Sized : ℕ → Form → Type 0
+Sized n form = (n ≤ slotsOf form) × (slotsOf form ≤ 64) × (1 ≤ capacityOf form) × (capacityOf form ≤ 16)
+
 -- as a well-formed plan; before the W line there is nothing
 record Begun (p : Plan) : Type 0 where
   pub fresh : p .workers ≡ 0 → (length (p .tasks) ≡ 0) × (length (p .orders) ≡ 0)
   pub workers-few : p .workers ≤ 32
+  pub sized : Sized (p .workers) (p .form)
   pub tasks-few : length (p .tasks) ≤ 128
   pub tasks : Each TaskFormed (p .tasks)
   pub orders : Each (OrderFormed (p .workers)) (p .orders)
@@ -110,6 +121,13 @@ granted (a ∷ asks) e = go (a .holds) refl e (granted asks)
     go true h e rest = (h, rest e)
     go false h e rest = absurd (Option·some-ne-none (a .otherwise) e)
 
+sized : (n : ℕ) (form : Form) → n ≤ slotsOf form → sizesInRange form ≡ true → Sized n form
+sized n First enough e = (enough, omega arith, omega arith, omega arith)
+sized n (Second slots capacity) enough e =
+    let (few-slots, few-places) = both _ _ e in
+    let (low, high) = within-bounds 1 16 capacity few-places in
+    (enough, within-bounds 1 64 slots few-slots .1, low, high)
+
 -- ---- one line more, by its kind: an order line has four bytes or more
 
 module _ (p : Plan) (h : Begun p) (k : ℕ) where
@@ -121,15 +139,17 @@ module _ (p : Plan) (h : Begun p) (k : ℕ) where
   Keeps none = Unit {0}
   Keeps (some l) = Granted (l .asks) → Grows (l .plan)
 
-  keeps-workers : (n : ℕ) → Keeps (some (workersLine p n))
-  keeps-workers n (start, range) =
-      let (low, high) = within-bounds 1 32 n (range .0) in
+  keeps-workers : (n : ℕ) (form : Form) → Keeps (some (workersLine p n form))
+  keeps-workers n form (start, range) =
+      let (workers, sizes) = both _ _ (range .0) in
+      let (low, high) = within-bounds 1 32 n workers in
       let (no-tasks, no-orders) = h .fresh (eqb-true (p .workers) 0 start) in
       record {
         begun =
             record {
               fresh = λ e. absurd (omega arith);
               workers-few = high;
+              sized = sized n form (leb-true _ _ (range .1 .0)) sizes;
               tasks-few = h .tasks-few;
               tasks = h .tasks;
               orders = λ i l. absurd (omega arith);
@@ -155,6 +175,7 @@ module _ (p : Plan) (h : Begun p) (k : ℕ) where
             record {
               fresh = λ e. absurd (omega arith);
               workers-few = h .workers-few;
+              sized = h .sized;
               tasks-few = omega (arith, length-append (p .tasks) (t ∷ []), ltb-true (length (p .tasks)) 128 few-tasks);
               tasks =
                   each-more TaskFormed (p .tasks) t (h .tasks)
@@ -179,6 +200,7 @@ module _ (p : Plan) (h : Begun p) (k : ℕ) where
             record {
               fresh = λ e. absurd (omega arith);
               workers-few = h .workers-few;
+              sized = h .sized;
               tasks-few = h .tasks-few;
               tasks = h .tasks;
               orders = each-more (OrderFormed (p .workers)) (p .orders) o (h .orders) (formed (range .0));
@@ -214,14 +236,14 @@ module _ (p : Plan) (h : Begun p) (k : ℕ) where
       go (some n) = keeps (omega arith) n
 
   keeps-one : (make : ℕ → Line) → ((n : ℕ) → 4 ≤ k → Keeps (some (make n)))
-      → (fields : List (List ℕ)) → k ≡ 2 + size fields → Keeps (oneNumber make fields)
+      → (fields : List (List ℕ)) → 2 + size fields ≤ k → Keeps (oneNumber make fields)
   unfolding size
   keeps-one make keeps [] e = tt
   keeps-one make keeps (f ∷ []) e = numbered make f (λ l n. keeps n (omega arith))
   keeps-one make keeps (f ∷ g ∷ gs) e = tt
 
   keeps-two : (make : ℕ → ℕ → Line) → ((m n : ℕ) → 4 ≤ k → Keeps (some (make m n)))
-      → (fields : List (List ℕ)) → k ≡ 2 + size fields → Keeps (twoNumbers make fields)
+      → (fields : List (List ℕ)) → 2 + size fields ≤ k → Keeps (twoNumbers make fields)
   unfolding size
   keeps-two make keeps [] e = tt
   keeps-two make keeps (f ∷ []) e = tt
@@ -232,6 +254,19 @@ module _ (p : Plan) (h : Begun p) (k : ℕ) where
       go (some m) none = tt
       go (some m) (some n) = keeps m n (omega arith)
   keeps-two make keeps (f ∷ g ∷ g' ∷ gs) e = tt
+
+  keeps-in-form : (fields : List (List ℕ)) → 2 + size fields ≤ k → Keeps (inForm (workersLine p) fields)
+  unfolding size
+  keeps-in-form [] e = tt
+  keeps-in-form (f ∷ []) e = numbered (λ n. workersLine p n First) f (λ l n. keeps-workers n First)
+  keeps-in-form (f ∷ g ∷ gs) e = go (numberOf f)
+    where
+      go : (x : Option ℕ)
+          → Keeps (elim x [ none ↦ none | some n ↦ twoNumbers (λ slots capacity. workersLine p n (Second slots capacity)) (g ∷ gs) ])
+      go none = tt
+      go (some n) =
+          keeps-two (λ slots capacity. workersLine p n (Second slots capacity))
+          (λ slots capacity l. keeps-workers n (Second slots capacity)) (g ∷ gs) (omega arith)
 
   keeps-labelled : (fields : List (List ℕ)) → Keeps (labelAndCost (taskLine p) fields)
   keeps-labelled [] = tt
@@ -248,16 +283,16 @@ module _ (p : Plan) (h : Begun p) (k : ℕ) where
   keeps-cond true x y f g = f
   keeps-cond false x y f g = g
 
-  keeps-by : (letter : ℕ) (fields : List (List ℕ)) → k ≡ 2 + size fields → Keeps (lineBy p letter fields)
+  keeps-by : (letter : ℕ) (fields : List (List ℕ)) → 2 + size fields ≤ k → Keeps (lineBy p letter fields)
   unfolding lineBy
   keeps-by letter fields e =
-      keeps-cond (eqb letter 'W') _ _ (keeps-one (workersLine p) (λ n l. keeps-workers n) fields e)
+      keeps-cond (eqb letter 'W') _ _ (keeps-in-form fields e)
       (keeps-cond (eqb letter 'T') _ _ (keeps-labelled fields)
       (keeps-cond (eqb letter 'P') _ _ (keeps-two (picksLine p) keeps-picks fields e)
       (keeps-cond (eqb letter 'R') _ _ (keeps-one (roundsLine p) keeps-rounds fields e)
       (keeps-cond (eqb letter 'S') _ none (keeps-two (seededLine p) keeps-seeded fields e) tt))))
 
-  keeps-fields : (fields : List (List ℕ)) → k ≡ size fields → Keeps (lineOfFields p fields)
+  keeps-fields : (fields : List (List ℕ)) → size fields ≤ k → Keeps (lineOfFields p fields)
   unfolding lineOfFields size
   keeps-fields [] e = tt
   keeps-fields ([] ∷ fields) e = tt
@@ -273,7 +308,7 @@ Sound k (refused r n) = Unit {0}
 sound-line : (k : ℕ) (p : Plan) (h : Begun p) (part : List ℕ) (n : ℕ) (next : Plan → Reading)
     → ((q : Plan) → Grows p h (length part + 1) q → Sound k (next q)) → Sound k (readLine n (lineOf p part) next)
 sound-line k p h part n next rest =
-    go (lineOf p part) (keeps-fields p h (length part + 1) (split tab part) (sym (split-size tab part)))
+    go (lineOf p part) (keeps-fields p h (length part + 1) (split tab part) (omega (arith, split-size tab part)))
   where
     go : (x : Option Line) → Keeps p h (length part + 1) x → Sound k (readLine n x next)
     go none f = tt
@@ -292,6 +327,10 @@ sound-end k p n [] h l = go (atStart p) refl
       record {
         workers-some = omega (arith, eqb-false (p .workers) 0 e);
         workers-few = h .workers-few;
+        slots-enough = h .sized .0;
+        slots-few = h .sized .1;
+        capacity-some = h .sized .2;
+        capacity-few = h .sized .3;
         tasks-few = h .tasks-few;
         tasks = h .tasks;
         orders = h .orders;
@@ -313,6 +352,7 @@ nothing-read =
     record {
       fresh = λ e. (refl, refl);
       workers-few = omega arith;
+      sized = (omega arith, omega arith, omega arith, omega arith);
       tasks-few = omega arith;
       tasks = λ i l. absurd (omega arith);
       orders = λ i l. absurd (omega arith);

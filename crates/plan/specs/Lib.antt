@@ -5,4 +5,5 @@ pub mod Orders
 pub mod Accepted
 pub mod Refused
 pub mod TwoFaults
+pub mod Forms
 pub mod PassFields

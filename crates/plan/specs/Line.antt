@@ -6,10 +6,12 @@ use mathlib.Core.Option.{Option, none, some, Option·map}
 use lib.ListN.{length}
 use lib.Dec.{eqb, leb, ltb}
 use Rattle.refusals.specs.declared.Refusal.{Refusal}
-use Rattle.refusals.specs.declared.Refusal.the-variants.{OutOfRange, Misplaced, TooMany, AddressTwice}
+use Rattle.refusals.specs.declared.Refusal.the-variants.{OutOfRange, Misplaced, TooMany, AddressTwice, TooFewSlots}
 use Rattle.runs.specs.Every.{every}
 use Rattle.text.specs.Text.{tab, hyphen, within, allOf, split, isDigit, numberOf}
-use Rattle.plan.specs.Plan.{Access, Task, Order, picks, rounds, seeded, Plan, withWorkers, withTask, withOrder}
+use Rattle.plan.specs.declared.form.Form.{Form}
+use Rattle.plan.specs.declared.form.Form.the-variants.{First, Second}
+use Rattle.plan.specs.Plan.{Access, Task, Order, picks, rounds, seeded, slotsOf, Plan, withWorkers, withTask, withOrder}
 
 -- ---- what is asked of a line
 
@@ -43,9 +45,19 @@ unfoldable pub repeats : List Access → Bool
 repeats [] = false
 repeats (a ∷ xs) = not (every (λ b. not (eqb (a .address) (b .address))) xs) || repeats xs
 
--- W: first, and once
-abbrev pub workersLine : Plan → ℕ → Line
-workersLine p n = line (ask (atStart p) Misplaced ∷ ask (within 1 32 n) OutOfRange ∷ []) (withWorkers p n)
+-- the numbers that only the second form has
+abbrev pub sizesInRange : Form → Bool
+sizesInRange First = true
+sizesInRange (Second slots capacity) = within 1 64 slots && within 1 16 capacity
+
+-- W: first, and once; no fewer slots than workers
+abbrev pub workersLine : Plan → ℕ → Form → Line
+workersLine p n form =
+    line
+    (ask (atStart p) Misplaced
+    ∷ ask (within 1 32 n && sizesInRange form) OutOfRange
+    ∷ ask (leb n (slotsOf form)) TooFewSlots ∷ [])
+    (withWorkers p n form)
 
 -- T: before all order lines; nothing is asked of its label, which may repeat
 abbrev pub taskLine : Plan → Task → Line
@@ -129,6 +141,13 @@ twoNumbers make (f ∷ []) = none
 twoNumbers make (f ∷ g ∷ []) = withBoth make (numberOf f) (numberOf g)
 twoNumbers make (f ∷ g ∷ h ∷ hs) = none
 
+-- one number, in the first form, or three, in the second
+abbrev pub inForm : (ℕ → Form → Line) → List (List ℕ) → Option Line
+inForm make [] = none
+inForm make (f ∷ []) = Option·map (λ n. make n First) (numberOf f)
+inForm make (f ∷ g ∷ gs) =
+    elim (numberOf f) [ none ↦ none | some n ↦ twoNumbers (λ slots capacity. make n (Second slots capacity)) (g ∷ gs) ]
+
 abbrev pub withCost : (Task → Line) → List ℕ → Option ℕ → Option (List Access) → Option Line
 withCost make label none xs = none
 withCost make label (some c) none = none
@@ -143,7 +162,7 @@ labelAndCost make (f ∷ g ∷ gs) = cond (isLabel f) (withCost make f (numberOf
 -- the line of a first field and the others: one row for each kind
 unfoldable pub lineBy : Plan → ℕ → List (List ℕ) → Option Line
 lineBy p letter fields =
-    cond (eqb letter 'W') (oneNumber (workersLine p) fields)
+    cond (eqb letter 'W') (inForm (workersLine p) fields)
     (cond (eqb letter 'T') (labelAndCost (taskLine p) fields)
     (cond (eqb letter 'P') (twoNumbers (picksLine p) fields)
     (cond (eqb letter 'R') (oneNumber (roundsLine p) fields)

@@ -1,10 +1,11 @@
--- Texts with two faults, read: which one decides. The first faulty line does, and in it the refusals come in the order 1, 3, 2, 4, 5.
+-- Texts with two faults, read: which one decides. The first faulty line does, and in it the refusals come in the order 1, 3, 2, 4, 5; in a
+-- W line in the order 1, 3, 2, 9.
 use Prim.Native.Nat.{ℕ}
 use Prim.Native.String.{String}
 use mathlib.Core.Path.{_≡_, refl}
 use mathlib.Core.List.{List, [], _∷_}
 use Rattle.refusals.specs.declared.Refusal.{Refusal}
-use Rattle.refusals.specs.declared.Refusal.the-variants.{Malformed, OutOfRange, Misplaced, TooMany, AddressTwice}
+use Rattle.refusals.specs.declared.Refusal.the-variants.{Malformed, OutOfRange, Misplaced, TooMany, AddressTwice, TooFewSlots}
 use Rattle.runs.specs.Every.{every}
 use Rattle.text.specs.Text.{bytes, allOf, split, valueAfter, numberOf}
 use Rattle.plan.specs.Line.{repeats, accessOf, lineBy, lineOfFields}
@@ -15,7 +16,7 @@ pub record Faulty : Type 0 where
   pub refusal : Refusal
   pub line : ℕ
 
-abbrev faulty : String → Refusal → ℕ → Faulty
+abbrev pub faulty : String → Refusal → ℕ → Faulty
 faulty text refusal line = record { text = text; refusal = refusal; line = line }
 
 abbrev pub AllRefused : List Faulty → Type 0
@@ -46,3 +47,30 @@ twoFaults =
 pub two-faults : AllRefused twoFaults
 unfolding bytes every allOf split valueAfter numberOf accessOf lineBy lineOfFields repeats firstRefusal readLines reading
 two-faults = (refl, (refl, (refl, (refl, (refl, (refl, (refl, (refl, (refl, (refl, tt))))))))))
+
+-- W lines that are not of the first form
+abbrev pub workersFaults : List Faulty
+workersFaults =
+    -- 1 and not 2, and not 9: two numbers, four numbers, a field that is no number, no line feed
+    faulty "W\t33\t0\n" Malformed 1
+    ∷ faulty "W\t2\t1\t0\t1\n" Malformed 1
+    ∷ faulty "W\t2\t1\t-\n" Malformed 1
+    ∷ faulty "W\t2\t1\t1" Malformed 1
+    -- 1 and not 3
+    ∷ faulty "W\t1\nW\t2\t1\n" Malformed 2
+    -- 3 and not 2, and not 9
+    ∷ faulty "W\t1\nW\t33\t1\t17\n" Misplaced 2
+    ∷ faulty "W\t2\t2\t1\nW\t2\t1\t1\n" Misplaced 2
+    -- 2 and not 9: each number out of its range
+    ∷ faulty "W\t33\t1\t1\n" OutOfRange 1
+    ∷ faulty "W\t2\t0\t1\n" OutOfRange 1
+    ∷ faulty "W\t66\t65\t1\n" OutOfRange 1
+    ∷ faulty "W\t2\t1\t0\n" OutOfRange 1
+    ∷ faulty "W\t2\t1\t17\n" OutOfRange 1
+    -- 9 in a line before one that is malformed
+    ∷ faulty "W\t2\t1\t1\nT\n" TooFewSlots 1
+    ∷ []
+
+pub workers-faults : AllRefused workersFaults
+unfolding bytes every split valueAfter numberOf lineBy lineOfFields firstRefusal readLines reading
+workers-faults = (refl, (refl, (refl, (refl, (refl, (refl, (refl, (refl, (refl, (refl, (refl, (refl, (refl, tt)))))))))))))

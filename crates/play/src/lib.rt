@@ -14,7 +14,7 @@ ghost use Rattle.machine.specs.Ranges.{Sized};
 ghost use Rattle.memory.specs.Layout as layout;
 ghost use Rattle.memory.specs.Codes.{optionCode};
 ghost use Rattle.memory.specs.Labels.{Labels};
-ghost use Rattle.steps.specs.Layout.{mostWorkers, sharesSize, SLOTS, GIVERS, deviceSize};
+ghost use Rattle.steps.specs.Layout.{mostWorkers, mostSlots, sharesSize, GIVERS, deviceSize};
 ghost use Rattle.steps.specs.Memory.{share, Memory, withCounts, Holds};
 ghost use Rattle.scheduler.specs.Lent.{memory};
 ghost use Rattle.report.specs.Report.{report};
@@ -26,6 +26,9 @@ ghost use Rattle.play.specs.Lent.{withShown};
 ghost use Rattle.play.specs.Loaded.{Loaded, LoadedTasks};
 use memory::layout;
 use orders::play_orders;
+use plan::form::Form;
+use plan::form::capacity_of;
+use plan::form::slots_of;
 use reader::ReadPlan;
 use refusals::Refusal;
 use report::Summary;
@@ -36,7 +39,7 @@ use scheduler::owner::find_owner;
 use steps::Counts;
 use steps::layout::DEVICE;
 use steps::layout::GIVERS;
-use steps::layout::SLOTS;
+use steps::layout::MOST_SLOTS;
 use tables::lay_out;
 
 // No report is longer: `accepted-short`.
@@ -125,6 +128,7 @@ fn answer_of(
 fn set_up(
     plan: &[u64],
     workers: u64,
+    form: Form,
     count: usize,
     wait: &mut [u64],
     registrations: &mut [u64],
@@ -136,9 +140,9 @@ fn set_up(
 ) -> Counts
     requires { ⌜ (length (now rows) ≡ layout.taskRows) × (length (now accesses) ≡ layout.accessRows)
         × (length (now labels) ≡ layout.labelRows) ⌝ }
-    requires { ⌜ ((text : List ℕ) × (p : Plan) × (reading text ≡ accepted p) × LoadedTasks text (now plan) workers count p) ⌝ }
+    requires { ⌜ ((text : List ℕ) × (p : Plan) × (reading text ≡ accepted p) × LoadedTasks text (now plan) workers form count p) ⌝ }
     ensures { λ r. ⌜ ((text : List ℕ) (p : Plan) (device store : List ℕ) → reading text ≡ accepted p →
-        LoadedTasks text (now (plan .entry)) workers count p →
+        LoadedTasks text (now (plan .entry)) workers form count p →
         sharesSize ≤ length store → take sharesSize store ≡ replicate sharesSize 0 →
         drop GIVERS device ≡ replicate layout.mostTasks 0 →
         Holds (setupOf p)
@@ -147,9 +151,11 @@ fn set_up(
         (share store) (start (setupOf p))
         × Labels (p .tasks) text (now (labels .exit))) ⌝ }
 {
+    let slots = slots_of(form);
+    let capacity = capacity_of(form);
     lay_out(plan, count, rows, accesses, labels);
-    let ends = lock::start(SLOTS, wait, registrations, tickets, cells);
-    fresh(ends, workers, count as u64)
+    let ends = lock::start(slots, wait, registrations, tickets, cells);
+    fresh(ends, workers, slots, capacity, count as u64)
 }
 
 // Runs a plan that was read, in arrays that are lent, from a store whose shares are all 0 and a device's array without a giver.
@@ -171,7 +177,7 @@ fn run_in(
     output: &mut [u8],
 ) -> Answer
     requires { ⌜ (sharesSize ≤ length (now store)) × (take sharesSize (now store) ≡ replicate sharesSize 0) ⌝ }
-    requires { ⌜ (length (now wait) ≡ SLOTS) × (length (now registrations) ≡ SLOTS) × (length (now tickets) ≡ mostWorkers)
+    requires { ⌜ (length (now wait) ≡ mostSlots) × (length (now registrations) ≡ mostSlots) × (length (now tickets) ≡ mostWorkers)
         × (length (now cells) ≡ mostWorkers) × (length (now device) ≡ deviceSize) × (length (now rows) ≡ layout.taskRows)
         × (length (now accesses) ≡ layout.accessRows) × (length (now labels) ≡ layout.labelRows)
         × (drop GIVERS (now device) ≡ replicate layout.mostTasks 0) ⌝ }
@@ -182,9 +188,11 @@ fn run_in(
         × (now (output .exit) ≡ (written left (now (output .entry)) (reached p limit .picks) (reportOf p limit)) .output)) ⌝ }
     ensures later { λ _. ⌜ drop sharesSize (now (store .exit)) ≡ drop sharesSize (now (store .entry)) ⌝ }
 {
+    let form = read.form;
     let begin = set_up(
         plan,
         read.workers,
+        form,
         read.tasks,
         wait,
         registrations,
@@ -229,8 +237,8 @@ pub fn run_plan(
         × (now (output .exit) ≡ (written left (now (output .entry)) (reached p limit .picks) (reportOf p limit)) .output)) ⌝ }
     ensures later { λ _. ⌜ drop sharesSize (now (store .exit)) ≡ drop sharesSize (now (store .entry)) ⌝ }
 {
-    let mut wait = [0u64; SLOTS as usize];
-    let mut registrations = [0u64; SLOTS as usize];
+    let mut wait = [0u64; MOST_SLOTS];
+    let mut registrations = [0u64; MOST_SLOTS];
     let mut tickets = [0u64; layout::MOST_WORKERS];
     let mut cells = [0u64; layout::MOST_WORKERS];
     let mut device = [0u64; DEVICE];

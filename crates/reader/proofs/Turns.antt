@@ -16,6 +16,7 @@ use Rattle.text.specs.Text.{lineFeed, split, allOf, numberOf}
 use Rattle.text.specs.Fields.{Cut, endless, cut, fieldOf, answer, First, unended, first, firstLine, Fields, clipped}
 use Rattle.text.specs.FieldLaws.{some-part, field-length, fields-more, line-parts, line-unended}
 use Rattle.plan.specs.declared.field.Access.the-variants as accesses
+use Rattle.plan.specs.declared.form.Form.{Form}
 use Rattle.plan.specs.Plan.{Access, Order, Plan, emptyPlan, withWorkers, withTask, withOrder}
 use Rattle.plan.specs.Line as plans
 use Rattle.plan.specs.Line.{'T', access, accessOf, atStart, isLabel, withCost, lineBy, lineOfFields, taskLine}
@@ -271,7 +272,8 @@ module _ {text : List ℕ} {begin : ℕ} {p : Plan} {line : Line} {at : ℕ} {a 
 
 -- what is kept of a line without fault makes q of p
 data Adds (text : List ℕ) (line : Line) (row : List ℕ) (p q : Plan) : Type 0 where
-  adds-workers : line .kind ≡ kinds.Workers → line .first ≤ 32 → q ≡ withWorkers p (line .first) → Adds text line row p q
+  adds-workers : (form : Form) → line .kind ≡ kinds.Workers form → line .first ≤ 32 → q ≡ withWorkers p (line .first) form
+      → Adds text line row p q
   adds-task : line .kind ≡ kinds.Task → (t : Placed) → Labelled text t → length (t .task .accesses) ≤ layout.mostTaskAccesses
       → row ≡ rowOf t → length (p .tasks) < layout.mostTasks → q ≡ withTask p (t .task) → Adds text line row p q
   adds-order : line .kind ≡ kinds.Order → (o : Order) → codeOf o ≡ line .first → seedOf o ≡ line .second → q ≡ withOrder p o
@@ -304,12 +306,12 @@ module _ {text : List ℕ} {begin : ℕ} {p : Plan} {line : Line} {at : ℕ} {a 
       }
     where
       fault-same : (k : Kind) → IsWhole k → faultBy k (line .fault) a (length (p .tasks)) ≡ line .fault
-      fault-same kinds.Workers w = refl
+      fault-same (kinds.Workers form) w = refl
       fault-same kinds.Task w = absurd w
       fault-same kinds.Order w = refl
 
       adds-as : (k : Kind) → line .kind ≡ k → Makes k (line .first) (line .second) p (f .l .plan) → Adds text line row p (f .l .plan)
-      adds-as kinds.Workers e (q, low) = adds-workers e low q
+      adds-as (kinds.Workers form) e (q, low) = adds-workers form e low q
       adds-as kinds.Task e m = absurd m
       adds-as kinds.Order e (o, q, code, seed) = adds-order e o code seed q
 
@@ -408,10 +410,10 @@ module _ {text : List ℕ} {before : Lent} {s : Sofar} {n begin : ℕ} {mid : Le
 
   module _ {line : Line} {row : List ℕ} {after : Lent} {r : Sofar} (k : Keeps s line row mid after r) where
     grown : {q : Plan} → Adds text line row (g .p) q → Grown q r after
-    grown (adds-workers kind low is) =
+    grown (adds-workers form kind low is) =
         rw (is, rw kind at (k .counts))
         (record {
-          sums = record { workers = refl; tasks = g .sums .tasks; orders = g .sums .orders };
+          sums = record { workers = refl; form = refl; tasks = g .sums .tasks; orders = g .sums .orders };
           low = low;
           few = g .few;
           each = omega arith;
@@ -424,6 +426,7 @@ module _ {text : List ℕ} {before : Lent} {s : Sofar} {n begin : ℕ} {mid : Le
           sums =
               record {
                 workers = g .sums .workers;
+                form = g .sums .form;
                 tasks = omega (arith, g .sums .tasks, length-append (g .p .tasks) (t .task ∷ []));
                 orders = g .sums .orders;
               };
@@ -439,6 +442,7 @@ module _ {text : List ℕ} {before : Lent} {s : Sofar} {n begin : ℕ} {mid : Le
           sums =
               record {
                 workers = g .sums .workers;
+                form = g .sums .form;
                 tasks = g .sums .tasks;
                 orders = omega (arith, g .sums .orders, length-append (g .p .orders) (o ∷ []));
               };
@@ -496,7 +500,8 @@ module _ {text : List ℕ} {before : Lent} {s : Sofar} {n at : ℕ} {after : Len
     gives-misplaced z = gives-refused Misplaced (comes-end ∙ rw (eq-eqb (g .p .workers) 0 (omega (arith, g .sums .workers))))
 
     pub gives-accepted : (s .workers ≡ 0 → ⊥)
-        → Gives text before after (record { checked = Accepted; workers = s .workers; tasks = s .tasks; orders = s .orders }) (reading text)
+        → Gives text before after
+        (record { checked = Accepted; workers = s .workers; form = s .form; tasks = s .tasks; orders = s .orders }) (reading text)
     gives-accepted z =
         let some-workers : comes (g .p) n text at ≡ accepted (g .p) =
         comes-end ∙ rw (ne-eqb (g .p .workers) 0 (λ e. z (g .sums .workers ∙ e))) in
@@ -504,6 +509,7 @@ module _ {text : List ℕ} {before : Lent} {s : Sofar} {n at : ℕ} {after : Len
         (record {
           accepts = refl;
           workers = g .sums .workers;
+          form = g .sums .form;
           tasks = g .sums .tasks;
           orders = g .sums .orders;
           rows = g .rows;

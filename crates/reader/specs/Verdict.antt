@@ -6,6 +6,7 @@ use lib.ListN.{length}
 use lib.Seq.{sets}
 use Rattle.refusals.specs.declared.Refusal.{Refusal}
 use Rattle.refusals.specs.Number.{number}
+use Rattle.plan.specs.declared.form.Form.the-variants.{First}
 use Rattle.plan.specs.Plan.{Plan}
 use Rattle.plan.specs.Reading.{Reading, accepted, refused}
 use Rattle.kept.specs.Tasks.{KeepsTasks}
@@ -43,7 +44,7 @@ told-verdict (accepted p) = refl
 told-verdict (refused r line) = refl
 
 abbrev pub noPlan : Refusal → ℕ → ReadPlan
-noPlan refusal line = record { checked = Refused refusal line; workers = 0; tasks = 0; orders = 0 }
+noPlan refusal line = record { checked = Refused refusal line; workers = 0; form = First; tasks = 0; orders = 0 }
 
 -- what is lent for the rows of tasks and of order lines, before and after
 pub record Lent : Type 0 where
@@ -57,6 +58,7 @@ lent rows lines = record { rows = rows; lines = lines }
 pub record Says (text : List ℕ) (before after : Lent) (r : ReadPlan) (p : Plan) : Type 0 where
   pub accepts : r .checked ≡ Accepted
   pub workers : r .workers ≡ p .workers
+  pub form : r .form ≡ p .form
   pub tasks : r .tasks ≡ length (p .tasks)
   pub orders : r .orders ≡ length (p .orders)
   pub rows : KeepsTasks text (before .rows) (p .tasks) (after .rows)

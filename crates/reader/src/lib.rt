@@ -22,6 +22,7 @@ use lines::line::Sofar;
 use lines::line::read_line;
 use plan::field::Access;
 use plan::field::read_access;
+use plan::form::Form;
 use refusals::Refusal;
 
 // What checking a text gives: a refusal has the line's number, from 1, or 0 if it is not the plan's.
@@ -30,10 +31,11 @@ pub enum Checked {
     Refused(Refusal, u64),
 }
 
-// A text as it was read: of an accepted one the plan's workers, and how many tasks and order lines are kept.
+// A text as it was read: of an accepted one the plan's workers and its form, and how many tasks and order lines are kept.
 pub struct ReadPlan {
     pub checked: Checked,
     pub workers: u64,
+    pub form: Form,
     pub tasks: usize,
     pub orders: usize,
 }
@@ -46,6 +48,7 @@ fn refused(refusal: Refusal, line: u64) -> ReadPlan
     ReadPlan {
         checked: Checked::Refused(refusal, line),
         workers: 0,
+        form: Form::First,
         tasks: 0,
         orders: 0,
     }
@@ -56,6 +59,7 @@ fn no_lines() -> Sofar
 {
     Sofar {
         workers: 0,
+        form: Form::First,
         tasks: 0,
         orders: 0,
     }
@@ -70,8 +74,13 @@ fn keep(sofar: Sofar, line: Line, row: &[u64], rows: &mut [u64], orders: &mut [u
     let kind = line.kind;
     let mut s = sofar;
     match kind {
-        Kind::Workers => {
-            s.workers = line.first;
+        Kind::Workers(form) => {
+            s = Sofar {
+                workers: line.first,
+                form,
+                tasks: sofar.tasks,
+                orders: sofar.orders,
+            };
         }
         Kind::Task => {
             keep_task(rows, sofar.tasks, row);
@@ -137,9 +146,11 @@ fn read_lines(text: &[u8], rows: &mut [u64], orders: &mut [u64]) -> ReadPlan
     if sofar.workers == 0 {
         return refused(Refusal::Misplaced, number);
     }
+    let form = sofar.form;
     ReadPlan {
         checked: Checked::Accepted,
         workers: sofar.workers,
+        form,
         tasks: sofar.tasks,
         orders: sofar.orders,
     }

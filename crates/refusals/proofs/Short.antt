@@ -3,7 +3,7 @@ use Prim.Native.Nat.{_≤_, _<_}
 use native.Mathlib.Omega.{arith}
 use lib.ListN.{length}
 use Rattle.refusals.specs.declared.Refusal.{Refusal}
-use Rattle.refusals.specs.declared.Refusal.the-variants.{Malformed, OutOfRange, Misplaced, TooMany, AddressTwice, TextTooLong, StoreTooShort, OutputTooShort}
+use Rattle.refusals.specs.declared.Refusal.the-variants.{Malformed, OutOfRange, Misplaced, TooMany, AddressTwice, TextTooLong, StoreTooShort, OutputTooShort, TooFewSlots}
 use Rattle.text.specs.Text.{decimal}
 use Rattle.refusals.specs.Number.{number}
 use Rattle.text.specs.Decimals.{length-low}
@@ -17,6 +17,7 @@ one-digit AddressTwice = omega arith
 one-digit TextTooLong = omega arith
 one-digit StoreTooShort = omega arith
 one-digit OutputTooShort = omega arith
+one-digit TooFewSlots = omega arith
 
 pub number-short : (r : Refusal) → length (decimal (number r)) ≤ 1
 number-short r = omega (arith, length-low (number r) (one-digit r))

@@ -1,7 +1,7 @@
 -- The paper's number of a refusal.
 use Prim.Native.Nat.{ℕ}
 use Rattle.refusals.specs.declared.Refusal.{Refusal}
-use Rattle.refusals.specs.declared.Refusal.the-variants.{Malformed, OutOfRange, Misplaced, TooMany, AddressTwice, TextTooLong, StoreTooShort, OutputTooShort}
+use Rattle.refusals.specs.declared.Refusal.the-variants.{Malformed, OutOfRange, Misplaced, TooMany, AddressTwice, TextTooLong, StoreTooShort, OutputTooShort, TooFewSlots}
 
 abbrev pub number : Refusal → ℕ
 number Malformed = 1
@@ -12,3 +12,4 @@ number AddressTwice = 5
 number TextTooLong = 6
 number StoreTooShort = 7
 number OutputTooShort = 8
+number TooFewSlots = 9

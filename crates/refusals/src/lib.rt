@@ -25,6 +25,8 @@ pub enum Refusal {
     StoreTooShort,
     // an output that is shorter than the report
     OutputTooShort,
+    // fewer slots than workers
+    TooFewSlots,
 }
 
 // The paper's number.
@@ -40,6 +42,7 @@ pub fn number_of(refusal: Refusal) -> u64
         Refusal::TextTooLong => 6,
         Refusal::StoreTooShort => 7,
         Refusal::OutputTooShort => 8,
+        Refusal::TooFewSlots => 9,
     }
 }
 

@@ -11,5 +11,6 @@ pub mod Rounds
 pub mod Traces
 pub mod Near
 pub mod Circular
+pub mod Masks
 pub mod Stores
 pub mod Every

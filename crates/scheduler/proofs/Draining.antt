@@ -5,11 +5,13 @@ use native.Mathlib.Numerals.{add-one}
 use native.Mathlib.Nat.{mod-lt}
 use mathlib.Core.Path.{_≡_, refl, sym, ap, _∙_}
 use mathlib.Core.Logic.{_⊎_, inl, inr, _≢_}
+use mathlib.Core.Bool.{Bool, true, false}
 use mathlib.Core.List.{List, [], _++_}
 use lib.ListN.{length, getD, length-append}
 use lib.Seq.{getD-set-other}
+use lib.Dec.{ltb}
 use borrow.Author.Tests.{lt-ltb, le-ltb}
-use Rattle.runs.specs.Update.{upd, upd-id, upd-both, map-upd}
+use Rattle.runs.specs.Update.{upd, upd-id, upd-all, upd-both, map-upd}
 use Rattle.runs.specs.Circular.{entries}
 use Rattle.runs.specs.Circular.{entries-length}
 use Rattle.machine.specs.State.{Setup, State, Purpose, forServing, forAdding}
@@ -17,10 +19,10 @@ use Rattle.machine.specs.State.{Place, idle, trying, registering, looking, drai
 use Rattle.machine.specs.Step.{afterDraining, nextDrain}
 use Rattle.machine.specs.Events.{event-drain}
 use Rattle.machine.specs.Ranges.{Fit, acted}
-use Rattle.steps.specs.Layout.{stationSize, placeAt, numberAt, queuedAt, queueFrom, mostWorkers, CAPACITY, READY, GIVERS}
+use Rattle.steps.specs.Layout.{stationSize, placeAt, numberAt, queuedAt, slotAt, queueFrom, mostWorkers, queueSlots, READY, GIVERS}
 use Rattle.steps.specs.Layout.{DRAINING_TO_SERVE, DRAINING_TO_ADD, SERVING, LEAVING}
 use Rattle.steps.specs.Codes.{Coded}
-use Rattle.steps.specs.Memory.{part, station, Stationed, drained, Memory, Holds}
+use Rattle.steps.specs.Memory.{part, station, Stationed, Slotted, drained, Memory, Holds}
 use Rattle.steps.specs.declared.Counts.{Counts}
 use Rattle.steps.proofs.Parts.{station-at, part-of, station-of}
 use Rattle.steps.proofs.Stations.{queue-count}
@@ -43,6 +45,28 @@ drains-at k a (draining forAdding x) h l m = (forAdding, ap (draining forAdding)
 drains-at k a (serving n) h l m = absurd (omega (arith, h .0))
 drains-at k a (handing n) h l m = absurd (omega (arith, h .0))
 drains-at k a leaving h l m = absurd (omega arith)
+
+-- a place that doesn't wait needs no slot, and a slot stays where the numbers beside it change
+slotted-next : (c : Setup) (p : Purpose) (k slots : ℕ) (own : List ℕ) → Slotted slots own (nextDrain c p k)
+unfolding nextDrain
+slotted-next c p k slots own = go p (ltb (suc k) (c .workers))
+  where
+    go : (x : Purpose) (b : Bool) → Slotted slots own (elim b [ true ↦ draining x (suc k) | false ↦ afterDraining c x ])
+    go forServing true = tt
+    go forServing false = tt
+    go forAdding true = tt
+    go forAdding false = tt
+
+slotted-still : (slots : ℕ) (own next : List ℕ) (p : Place) → getD next slotAt 0 ≡ getD own slotAt 0 → Slotted slots own p
+    → Slotted slots next p
+slotted-still slots own next idle e h = tt
+slotted-still slots own next trying e h = tt
+slotted-still slots own next (registering t) e h = tt
+slotted-still slots own next (looking t) e h = e ∙ h
+slotted-still slots own next (draining p k) e h = tt
+slotted-still slots own next (serving n) e h = tt
+slotted-still slots own next (handing n) e h = tt
+slotted-still slots own next leaving e h = tt
 
 -- the place after queue k, from the numbers of the place before
 module _ (c : Setup) (p : Purpose) (k n a : ℕ) (h : Coded n a (draining p k)) where
@@ -104,7 +128,17 @@ module _ (shares : ℕ → List ℕ) (k : ℕ) (z : List ℕ) (long : length z �
 
 -- the numbers with r ready tasks
 abbrev pub readied : Counts → ℕ → Counts
-readied n r = record { ends = n .ends; workers = n .workers; «ready_at» = n .«ready_at»; ready = r; picks = n .picks; tally = n .tally }
+readied n r =
+    record {
+      ends = n .ends;
+      workers = n .workers;
+      slots = n .slots;
+      capacity = n .capacity;
+      «ready_at» = n .«ready_at»;
+      ready = r;
+      picks = n .picks;
+      tally = n .tally;
+    }
 
 module _ {c : Setup} {m : Memory} {shares : ℕ → List ℕ} {s : State} {w : ℕ} (h : Holds c m shares s) (fit : Fit c s w)
     (at : (getD (shares w) placeAt 0 ≡ DRAINING_TO_SERVE) ⊎ (getD (shares w) placeAt 0 ≡ DRAINING_TO_ADD)) where
@@ -130,7 +164,7 @@ module _ {c : Setup} {m : Memory} {shares : ℕ → List ℕ} {s : State} {w : �
     pub drained-known : k < m .counts .workers
     drained-known = omega (arith, drained-worker, h .device .workers)
 
-    pub drained-few : getD (stations k) queuedAt 0 ≤ CAPACITY
+    pub drained-few : getD (stations k) queuedAt 0 ≤ queueSlots
     drained-few = omega (arith, queue-count (h .device .stationed k drained-worker), fit .queues k, fit .sized .capacity)
 
     pub drained-room : m .counts .ready + getD (stations k) queuedAt 0 ≤ READY
@@ -163,12 +197,16 @@ module _ {c : Setup} {m : Memory} {shares : ℕ → List ℕ} {s : State} {w : �
           → entries (λ i. getD (m .device) i 0) READY (m .counts .«ready_at») (m .counts .ready) ≡ is
           → entries (λ i. getD more i 0) READY (m .counts .«ready_at») r ≡ is ++ q)
           → ((j : ℕ) → GIVERS ≤ j → getD more j 0 ≡ getD (m .device) j 0)
+          → getD one slotAt 0 ≡ getD (stations k) slotAt 0
           → ((x : Purpose) (q : List ℕ) → Stationed (upd stations k one w) (draining x k) q → Stationed two (nextDrain c x k) q)
           → Holds c (withDevice m (readied (m .counts) r) more) (withStation (withStation shares k one) w two) (acted c s w)
-      drain-acts two more r moved kept next =
+      drain-acts two more r moved kept slot next =
           let to = nextDrain c (stands .0) k in
           let first = withStation shares k one in
           let own = next (stands .0) (upd (s .queue) k [] w) emptied-own in
+          let slots : (v : ℕ) → v < c .workers → Slotted (c .slots) (upd stations k one v) (s .place v) =
+          upd-all (λ v y. v < c .workers → Slotted (c .slots) y (s .place v)) stations k one
+          (λ l. slotted-still (c .slots) (stations k) one (s .place k) slot (h .device .slotted k l)) (λ v d l. h .device .slotted v l) in
           let devices = stations-with first w two (own .long) ∙ ap (λ (f : ℕ → List ℕ). upd f w two) emptied-stations in
           rw (event-drain c s w stands-at)
           (record {
@@ -177,9 +215,14 @@ module _ {c : Setup} {m : Memory} {shares : ℕ → List ℕ} {s : State} {w : �
             device = rw devices
                 (record {
                   workers = h .device .workers;
+                  slots = h .device .slots;
+                  capacity = h .device .capacity;
                   stationed = λ v l.
                       upd-both (λ v y p. v < c .workers → Stationed y p (upd (s .queue) k [] v)) (upd stations k one) (s .place) w two to
                       (λ l. own) (λ v d l. emptied-all v l) v l;
+                  slotted = λ v l.
+                      upd-both (λ v y p. v < c .workers → Slotted (c .slots) y p) (upd stations k one) (s .place) w two to
+                      (λ l. slotted-next c (stands .0) k (c .slots) two) (λ v d l. slots v l) v l;
                   ready-at = h .device .ready-at;
                   givers = λ i l. kept (GIVERS + i) (omega arith) ∙ h .device .givers i l;
                   ready = moved (s .place k) (s .queue k) (s .readyList) (h .device .stationed k drained-worker) (h .device .ready);

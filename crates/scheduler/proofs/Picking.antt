@@ -32,6 +32,8 @@ counted n =
     record {
       ends = n .ends;
       workers = n .workers;
+      slots = n .slots;
+      capacity = n .capacity;
       «ready_at» = n .«ready_at»;
       ready = n .ready;
       picks = n .picks + 1;
@@ -58,7 +60,10 @@ module _ {m : Memory} where
         tasks = h .tasks;
         device = record {
           workers = h .device .workers;
+          slots = h .device .slots;
+          capacity = h .device .capacity;
           stationed = h .device .stationed;
+          slotted = h .device .slotted;
           ready-at = h .device .ready-at;
           ready = h .device .ready;
           givers = h .device .givers;

@@ -23,8 +23,18 @@ use Rattle.steps.specs.Memory.{share, part, station, Stationed, Holds}
 use Rattle.steps.specs.declared.Counts.{Counts}
 use Rattle.scheduler.specs.Lent.{memory}
 
-abbrev pub freshCounts : Ends → (workers tasks : ℕ) → Counts
-freshCounts ends workers tasks = record { ends = ends; workers = workers; «ready_at» = 0; ready = 0; picks = 0; tally = freshTally tasks }
+abbrev pub freshCounts : Ends → (workers slots capacity tasks : ℕ) → Counts
+freshCounts ends workers slots capacity tasks =
+    record {
+      ends = ends;
+      workers = workers;
+      slots = slots;
+      capacity = capacity;
+      «ready_at» = 0;
+      ready = 0;
+      picks = 0;
+      tally = freshTally tasks;
+    }
 
 -- ---- a store whose shares are all zeros
 
@@ -86,7 +96,9 @@ module _ (c : Setup) (few : c .workers ≤ mostWorkers) where
       → drop GIVERS device ≡ replicate layout.mostTasks 0
       → lockOf (c .slots) (ends .head .0) (ends .tail .0) wait registrations tickets cells ≡ L.start (c .slots)
       → TaskRows (c .tasks) rows (λ _. 0) (λ _. T.new) (λ _. 0) (λ _. 0) (λ _. 0) → AccessRows (c .tasks) accesses (λ _. noFlag)
-      → Holds c (memory (freshCounts ends (c .workers) (length (c .tasks))) wait registrations tickets cells device rows accesses)
+      → Holds c
+      (memory (freshCounts ends (c .workers) (c .slots) (c .capacity) (length (c .tasks))) wait registrations tickets cells device rows
+      accesses)
       (share store) (start c)
   unfolding start
   starts ends wait registrations tickets cells device rows accesses store long zeros ungiven lock task-rows access-rows =
@@ -97,7 +109,10 @@ module _ (c : Setup) (few : c .workers ≤ mostWorkers) where
             (zero-part store long zeros v (omega arith)));
         device = record {
           workers = refl;
+          slots = refl;
+          capacity = refl;
           stationed = λ v l. starts-idle store long zeros v (omega arith);
+          slotted = λ v l. tt;
           ready-at = omega arith;
           ready = entries-none (λ k. getD device k 0) READY 0;
           givers = λ i l. no-giver device ungiven i;

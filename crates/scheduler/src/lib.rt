@@ -30,7 +30,6 @@ use memory::layout::STATION;
 use steps::Counts;
 use steps::create_step;
 use steps::full_step;
-use steps::layout::CAPACITY;
 use steps::layout::DRAINING_TO_SERVE;
 use steps::layout::HANDING;
 use steps::layout::IDLE;
@@ -50,13 +49,15 @@ use steps::station::go;
 pub mod owner; // owner.rt: who owns the lock
 
 // The numbers of a run in which no pick has been taken. Law: `starts`.
-pub fn fresh(ends: Ends, workers: u64, tasks: u64) -> Counts
-    ensures { λ r. ⌜ r ≡ freshCounts ends workers tasks ⌝ }
+pub fn fresh(ends: Ends, workers: u64, slots: u64, capacity: u64, tasks: u64) -> Counts
+    ensures { λ r. ⌜ r ≡ freshCounts ends workers slots capacity tasks ⌝ }
 {
     let tally = memory::tally::fresh(tasks);
     Counts {
         ends,
         workers,
+        slots,
+        capacity,
         ready_at: 0,
         ready: 0,
         picks: 0,
@@ -75,7 +76,7 @@ fn idle_step(n: Counts, rows: &mut [u64], accesses: &mut [u64], own: &mut [u64],
         return mind_step(n, rows, accesses, own, w);
     }
     if 0 < own[STATION + ADDS_COUNT] {
-        if own[QUEUED] < CAPACITY {
+        if own[QUEUED] < n.capacity {
             return push_step(n, own, w);
         }
         return full_step(n, own, w);

@@ -10,7 +10,7 @@ use lib.Seq.{getD-set-same, getD-set-other}
 use Rattle.runs.specs.Circular.{entries}
 use Rattle.runs.specs.Circular.{entries-length, entries-none, entries-snoc, entries-same, entries-push, array-push}
 use Rattle.machine.specs.State.{forServing, forAdding, Place, idle, trying, registering, looking, draining, serving, handing, leaving}
-use Rattle.steps.specs.Layout.{placeAt, numberAt, queuedAt, queueFrom, queueSlots, IDLE, DRAINING_TO_ADD, CAPACITY, READY}
+use Rattle.steps.specs.Layout.{placeAt, numberAt, queuedAt, slotAt, queueFrom, queueSlots, IDLE, LOOKING, DRAINING_TO_ADD, READY}
 use Rattle.steps.specs.Codes.{Coded}
 use Rattle.steps.specs.Memory.{Stationed, moved, pushed, emptied}
 
@@ -65,7 +65,22 @@ module _ {own : List ℕ} {p : Place} {q : List ℕ} (h : Stationed own p q) whe
         queue = rw (other queuedAt (omega arith)) (slots ∙ h .queue);
       }
 
-  pub stationed-push : (v : ℕ) → getD own queuedAt 0 < CAPACITY → Stationed (pushed own v) p (q ++ v ∷ [])
+  pub stationed-wait : (t slot : ℕ) (to : Place) → Coded LOOKING t to → Stationed (set (moved own LOOKING t) slotAt slot) to q
+  stationed-wait t slot to coded =
+      let one = moved own LOOKING t in
+      let went = stationed-go LOOKING t to coded in
+      let other : (k : ℕ) → k ≢ slotAt → getD (set one slotAt slot) k 0 ≡ getD one k 0 =
+      λ k d. getD-set-other one slotAt k slot 0 d in
+      let slots =
+      entries-same queueSlots (queueSlot (set one slotAt slot)) (queueSlot one) 0 (getD one queuedAt 0)
+      (λ i l. other (queueFrom + (0 + i) % queueSlots) (λ e. omega arith)) in
+      record {
+        long = simp length-set (h .long);
+        place = rw (other placeAt (λ e. omega arith), other numberAt (λ e. omega arith)) (went .place);
+        queue = rw (other queuedAt (λ e. omega arith)) (slots ∙ went .queue);
+      }
+
+  pub stationed-push : (v : ℕ) → getD own queuedAt 0 < queueSlots → Stationed (pushed own v) p (q ++ v ∷ [])
   stationed-push v room =
       let n = getD own queuedAt 0 in
       let one = set own (queueFrom + n) v in
@@ -100,7 +115,7 @@ module _ {own : List ℕ} {p : Place} {q : List ℕ} (h : Stationed own p q) whe
       }
 
 -- one turn of a drain: task i of the queue goes behind the n + i in the ready list
-pub drain-turn : (own ready start : List ℕ) (at n i : ℕ) → READY ≤ length ready → n + i < READY → i < CAPACITY
+pub drain-turn : (own ready start : List ℕ) (at n i : ℕ) → READY ≤ length ready → n + i < READY → i < queueSlots
     → entries (λ k. getD ready k 0) READY at (n + i) ≡ entries (λ k. getD start k 0) READY at n ++ entries (queueSlot own) queueSlots 0 i
     → entries (λ k. getD (set ready ((at + n + i) % READY) (queueSlot own i)) k 0) READY at (n + (i + 1))
     ≡ entries (λ k. getD start k 0) READY at n ++ entries (queueSlot own) queueSlots 0 (i + 1)

@@ -17,7 +17,7 @@ use Rattle.machine.specs.State.{Place, idle, trying}
 use Rattle.machine.specs.Event.{minds, pushes, findsFull, event}
 use Rattle.machine.specs.Events.{event-mind, event-push, event-find-full, event-create}
 use Rattle.machine.specs.Ranges.{acted}
-use Rattle.steps.specs.Layout.{stationSize, placeAt, queuedAt, IDLE, CAPACITY}
+use Rattle.steps.specs.Layout.{stationSize, placeAt, queuedAt, IDLE}
 use Rattle.steps.specs.Memory.{part, station, Stationed, Memory, withTasks, withTally, Holds, Able}
 use Rattle.steps.proofs.Parts.{station-at, station-of, part-of, lentPart, withPart, part-lent, part-back, station-still}
 use Rattle.steps.proofs.Acting.{acts-hold, tasks-still, tasks-able, own-stationed, own-long}
@@ -55,8 +55,9 @@ module _ {m : Memory} {own : List ℕ} {w : ℕ} (a : Able m own w) (at : getD o
       acts-hold (a .holds) (minds d) is (minded tally rows accesses) (withPart own y)
       (a .holds .lock)
       (rw (part-back own (own-long a) y, ← a .holds .picks) held)
-      refl
+      (refl, refl, refl)
       (rw (station-still own (own-long a) y, ← is-idle) (own-stationed a))
+      tt
       (λ v d. refl)
       (a .holds .device .ready-at)
       (a .holds .device .ready)
@@ -90,7 +91,7 @@ module _ {m : Memory} {own : List ℕ} {w : ℕ} (a : Able m own w) (at : getD o
       queued : length (a .s .queue w) ≡ getD own queuedAt 0
       queued = omega (arith, queue-count (own-stationed a), station-at own queuedAt (omega arith))
 
-      pub push-acts : getD own queuedAt 0 < CAPACITY → (y z : List ℕ) (r : ℕ)
+      pub push-acts : getD own queuedAt 0 < m .counts .capacity → (y z : List ℕ) (r : ℕ)
           → ((i : ℕ) (is : List ℕ) → a .s .tasks .adds w ≡ i ∷ is → r ≡ i)
           → ((i : ℕ) (is : List ℕ) → T.Does (TH.gives i is) (m .counts .picks) tasks-before (lentPart own) tasks-before y w)
           → ((p : Place) (q : List ℕ) → Stationed (station own) p q → Stationed z p (q ++ r ∷ []))
@@ -99,34 +100,36 @@ module _ {m : Memory} {own : List ℕ} {w : ℕ} (a : Able m own w) (at : getD o
         where
           holds : (i : ℕ) (is : List ℕ) → a .s .tasks .adds w ≡ i ∷ is → After m (z ++ y)
           holds i is e =
-              let few : length (a .s .queue w) < a .c .capacity = omega (arith, queued, room, a .fit .sized .capacity) in
+              let few : length (a .s .queue w) < a .c .capacity = omega (arith, queued, room, a .holds .device .capacity) in
               let held = gives i is able (TH.can-give i is e) in
               let behind : Stationed z idle (a .s .queue w ++ i ∷ []) =
               rw (is-idle, is-first i is e) at (pushed (a .s .place w) (a .s .queue w) (own-stationed a)) in
               acts-hold (a .holds) (pushes i is) (event-push (a .c) (a .s) w is-idle no-duty e few) m (z ++ y)
               (a .holds .lock)
               (rw (part-of z y (behind .long), ← a .holds .picks) held)
-              refl
+              (refl, refl, refl)
               (rw (station-of z y (behind .long), upd-same (a .s .queue) w (a .s .queue w ++ i ∷ [])) behind)
+              tt
               (λ v d. upd-other (a .s .queue) w (a .s .queue w ++ i ∷ []) v d)
               (a .holds .device .ready-at)
               (a .holds .device .ready)
               (a .holds .device .givers)
               refl
 
-      pub full-acts : CAPACITY ≤ getD own queuedAt 0 → (z : List ℕ)
+      pub full-acts : m .counts .capacity ≤ getD own queuedAt 0 → (z : List ℕ)
           → ((p : Place) (q : List ℕ) → Stationed (station own) p q → Stationed z trying q)
           → After m (z ++ part own)
       full-acts full z gone =
           let (i, is, e) = first-to-add a some-adds in
-          let most : a .c .capacity ≤ length (a .s .queue w) = omega (arith, queued, full, a .fit .sized .capacity) in
+          let most : a .c .capacity ≤ length (a .s .queue w) = omega (arith, queued, full, a .holds .device .capacity) in
           let finds = event-find-full (a .c) (a .s) w is-idle no-duty e most in
           let there = gone (a .s .place w) (a .s .queue w) (own-stationed a) in
           acts-hold (a .holds) findsFull finds m (z ++ part own)
           (a .holds .lock)
           (tasks-still (a .holds) findsFull finds own (z ++ part own) (a .lent) (part-of z (part own) (there .long)) refl)
-          refl
+          (refl, refl, refl)
           (rw (station-of z (part own) (there .long)) there)
+          tt
           (λ v d. refl)
           (a .holds .device .ready-at)
           (a .holds .device .ready)

@@ -12,7 +12,7 @@ stationSize = layout.station
 abbrev pub partSize : ℕ
 partSize = layout.part
 
--- the device's part: the place, what it speaks of, how many are queued; the queue's slots
+-- the device's part: the place, what it speaks of, how many are queued, the slot of a ticket that is waited with; the queue's slots
 abbrev pub placeAt : ℕ
 placeAt = 0
 
@@ -21,6 +21,9 @@ numberAt = 1
 
 abbrev pub queuedAt : ℕ
 queuedAt = 2
+
+abbrev pub slotAt : ℕ
+slotAt = 3
 
 abbrev pub queueFrom : ℕ
 queueFrom = 8
@@ -56,12 +59,9 @@ DRAINING_TO_SERVE = 7
 abbrev pub DRAINING_TO_ADD : ℕ
 DRAINING_TO_ADD = 8
 
--- the ring, the queues and the ready list; the device's array has the slots of the ready list, and behind them by task its giver
-abbrev pub SLOTS : ℕ
-SLOTS = 64
-
-abbrev pub CAPACITY : ℕ
-CAPACITY = 8
+-- the most slots of a ring; the ready list; the device's array has its slots, and behind them by task its giver
+abbrev pub mostSlots : ℕ
+mostSlots = 64
 
 abbrev pub READY : ℕ
 READY = 128

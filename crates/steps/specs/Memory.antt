@@ -11,9 +11,9 @@ use Rattle.runs.specs.Circular.{entries}
 use Rattle.memory.specs.Codes.{optionCode}
 use Rattle.memory.specs.Memory as T
 use Rattle.memory.specs.declared.tally.Tally.{Tally}
-use Rattle.machine.specs.State.{Setup, Place, State}
+use Rattle.machine.specs.State.{Setup, Place, idle, trying, registering, looking, draining, serving, handing, leaving, State}
 use Rattle.machine.specs.Ranges.{Fit, acted}
-use Rattle.steps.specs.Layout.{shareSize, stationSize, placeAt, numberAt, queuedAt, queueFrom, queueSlots, mostWorkers, SLOTS, READY, GIVERS, deviceSize}
+use Rattle.steps.specs.Layout.{shareSize, stationSize, placeAt, numberAt, queuedAt, slotAt, queueFrom, queueSlots, mostWorkers, mostSlots, READY, GIVERS, deviceSize}
 use Rattle.steps.specs.Codes.{Coded}
 use Rattle.steps.specs.declared.Counts.{Counts}
 
@@ -32,6 +32,17 @@ pub record Stationed (own : List ℕ) (p : Place) (q : List ℕ) : Type 0 where
   pub long : length own ≡ stationSize
   pub place : Coded (getD own placeAt 0) (getD own numberAt 0) p
   pub queue : entries (λ k. getD own (queueFrom + k) 0) queueSlots 0 (getD own queuedAt 0) ≡ q
+
+-- who waits with a ticket that is registered has its slot beside it
+abbrev pub Slotted : ℕ → List ℕ → Place → Type 0
+Slotted slots own idle = Unit {0}
+Slotted slots own trying = Unit {0}
+Slotted slots own (registering t) = Unit {0}
+Slotted slots own (looking t) = getD own slotAt 0 ≡ t % slots
+Slotted slots own (draining p k) = Unit {0}
+Slotted slots own (serving n) = Unit {0}
+Slotted slots own (handing n) = Unit {0}
+Slotted slots own leaving = Unit {0}
 
 -- the device's part with another place, with one more task in its queue, and with none
 abbrev pub moved : List ℕ → ℕ → ℕ → List ℕ
@@ -60,8 +71,8 @@ pub record Memory : Type 0 where
   pub accesses : List ℕ
 
 pub record Long (m : Memory) : Type 0 where
-  pub wait : length (m .wait) ≡ SLOTS
-  pub registrations : length (m .registrations) ≡ SLOTS
+  pub wait : length (m .wait) ≡ mostSlots
+  pub registrations : length (m .registrations) ≡ mostSlots
   pub tickets : length (m .tickets) ≡ mostWorkers
   pub cells : length (m .cells) ≡ mostWorkers
   pub device : length (m .device) ≡ deviceSize
@@ -86,11 +97,29 @@ withCounts m n = withTasks m n (m .rows) (m .accesses)
 
 abbrev pub withTally : Counts → Tally → Counts
 withTally n tally =
-    record { ends = n .ends; workers = n .workers; «ready_at» = n .«ready_at»; ready = n .ready; picks = n .picks; tally = tally }
+    record {
+      ends = n .ends;
+      workers = n .workers;
+      slots = n .slots;
+      capacity = n .capacity;
+      «ready_at» = n .«ready_at»;
+      ready = n .ready;
+      picks = n .picks;
+      tally = tally;
+    }
 
 abbrev pub withEnds : Counts → Ends → Counts
 withEnds n ends =
-    record { ends = ends; workers = n .workers; «ready_at» = n .«ready_at»; ready = n .ready; picks = n .picks; tally = n .tally }
+    record {
+      ends = ends;
+      workers = n .workers;
+      slots = n .slots;
+      capacity = n .capacity;
+      «ready_at» = n .«ready_at»;
+      ready = n .ready;
+      picks = n .picks;
+      tally = n .tally;
+    }
 
 -- the numbers without the first ready task
 abbrev pub oneTaken : Counts → Counts
@@ -98,6 +127,8 @@ oneTaken n =
     record {
       ends = n .ends;
       workers = n .workers;
+      slots = n .slots;
+      capacity = n .capacity;
       «ready_at» = (n .«ready_at» + 1) % READY;
       ready = n .ready - 1;
       picks = n .picks;
@@ -112,7 +143,10 @@ Given tasks device giver = (i : ℕ) → i < tasks → getD device (GIVERS + i) 
 pub record HoldsDevice (c : Setup) (n : Counts) (device : List ℕ) (stations : ℕ → List ℕ) (place : ℕ → Place) (queue : ℕ → List ℕ)
     (readyList : List ℕ) (giver : ℕ → Option ℕ) : Type 0 where
   pub workers : n .workers ≡ c .workers
+  pub slots : n .slots ≡ c .slots
+  pub capacity : n .capacity ≡ c .capacity
   pub stationed : (v : ℕ) → v < c .workers → Stationed (stations v) (place v) (queue v)
+  pub slotted : (v : ℕ) → v < c .workers → Slotted (c .slots) (stations v) (place v)
   pub ready-at : n .«ready_at» < READY
   pub ready : entries (λ k. getD device k 0) READY (n .«ready_at») (n .ready) ≡ readyList
   pub givers : Given (length (c .tasks)) device giver

@@ -1,12 +1,14 @@
 // Where the device's numbers lie: the names of offsets and codes. `specs/Layout.antt` has the same.
 use memory::layout::MOST_TASKS;
 
-// In the device's part: the place, what it speaks of, how many are queued; the queue's slots.
+// In the device's part: the place, what it speaks of, how many are queued, the slot of a ticket that is waited with; the queue's slots.
 pub const PLACE: usize = 0;
 
 pub const NUMBER: usize = 1;
 
 pub const QUEUED: usize = 2;
+
+pub const SLOT: usize = 3;
 
 pub(crate) const QUEUE: usize = 8;
 
@@ -29,10 +31,8 @@ pub const DRAINING_TO_SERVE: u64 = 7;
 
 pub const DRAINING_TO_ADD: u64 = 8;
 
-// The ring, the queues and the ready list; the device's array has the slots of the ready list, and behind them by task its giver.
-pub const SLOTS: u64 = 64;
-
-pub const CAPACITY: u64 = 8;
+// The most slots of a ring. The ready list; the device's array has its slots, and behind them by task its giver.
+pub const MOST_SLOTS: usize = 64;
 
 pub const READY: u64 = 128;
 

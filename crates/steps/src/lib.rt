@@ -6,7 +6,7 @@ ghost use Prim.Native.Nat.{_+_, _≤_, _<_};
 ghost use lib.ListN.{getD};
 ghost use Rattle.memory.specs.Layout as part;
 ghost use Rattle.memory.specs.Memory.{toCreate};
-ghost use Rattle.steps.specs.Layout.{stationSize, placeAt, queuedAt, IDLE, CAPACITY};
+ghost use Rattle.steps.specs.Layout.{stationSize, placeAt, queuedAt, IDLE};
 ghost use Rattle.steps.specs.Memory.{Memory, withTasks, withCounts, withEnds, Able, Acts};
 use duties::create::create;
 use duties::device::give;
@@ -22,10 +22,13 @@ use station::push;
 pub mod layout; // layout.rt: names of offsets and codes
 pub mod station; // station.rt: the device's part of a share
 
-// The lock's ends; how many workers there are; the slot of the oldest ready task and how many are ready; picks taken; the tasks' numbers.
+// The lock's ends; the plan's workers, slots and capacity; the slot of the oldest ready task and how many are ready; picks taken; the
+// tasks' numbers.
 pub struct Counts {
     pub ends: Ends,
     pub workers: u64,
+    pub slots: u64,
+    pub capacity: u64,
     pub ready_at: u64,
     pub ready: u64,
     pub picks: u64,
@@ -84,7 +87,7 @@ pub fn create_step(n: Counts, rows: &mut [u64], accesses: &[u64], own: &mut [u64
 pub fn push_step(n: Counts, own: &mut [u64], w: u64) -> Counts
     requires { ⌜ ((m : Memory) × Able (withCounts m n) (now own) w) × (getD (now own) placeAt 0 ≡ IDLE)
         × (getD (now own) (stationSize + part.stand) 0 ≡ part.free) × (getD (now own) (stationSize + part.mailCount) 0 ≡ 0)
-        × (0 < getD (now own) (stationSize + part.addsCount) 0) × (getD (now own) queuedAt 0 < CAPACITY) ⌝ }
+        × (0 < getD (now own) (stationSize + part.addsCount) 0) × (getD (now own) queuedAt 0 < n .capacity) ⌝ }
     ensures { λ r. ⌜ ((m : Memory) → Acts (withCounts m n) (now (own .entry)) (withCounts m r) (now (own .exit)) w) ⌝ }
 {
     let task = give(&mut own[STATION..SHARE]);
@@ -96,7 +99,7 @@ pub fn push_step(n: Counts, own: &mut [u64], w: u64) -> Counts
 pub fn full_step(n: Counts, own: &mut [u64], w: u64) -> Counts
     requires { ⌜ ((m : Memory) × Able (withCounts m n) (now own) w) × (getD (now own) placeAt 0 ≡ IDLE)
         × (getD (now own) (stationSize + part.stand) 0 ≡ part.free) × (getD (now own) (stationSize + part.mailCount) 0 ≡ 0)
-        × (0 < getD (now own) (stationSize + part.addsCount) 0) × (CAPACITY ≤ getD (now own) queuedAt 0) ⌝ }
+        × (0 < getD (now own) (stationSize + part.addsCount) 0) × (n .capacity ≤ getD (now own) queuedAt 0) ⌝ }
     ensures { λ r. ⌜ ((m : Memory) → Acts (withCounts m n) (now (own .entry)) (withCounts m r) (now (own .exit)) w) ⌝ }
 {
     go(&mut own[..STATION], TRYING, 0);

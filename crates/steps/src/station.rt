@@ -2,17 +2,19 @@
 ghost use mathlib.Core.Path.{_≡_};
 ghost use mathlib.Core.List.{List, [], _∷_, _++_};
 ghost use Prim.Native.Nat.{ℕ, _+_, _≤_, _<_};
-ghost use lib.ListN.{length, getD};
+ghost use lib.ListN.{length, getD, set};
 ghost use Rattle.runs.specs.Circular.{entries};
 ghost use Rattle.machine.specs.State.{Place};
-ghost use Rattle.steps.specs.Layout.{stationSize, queuedAt, CAPACITY, READY};
+ghost use Rattle.steps.specs.Layout.{stationSize, queuedAt, slotAt, queueSlots, LOOKING, READY};
 ghost use Rattle.steps.specs.Codes.{Coded};
 ghost use Rattle.steps.specs.Memory.{Stationed, moved, pushed, emptied, drained};
+use super::layout::LOOKING;
 use super::layout::NUMBER;
 use super::layout::PLACE;
 use super::layout::QUEUE;
 use super::layout::QUEUED;
 use super::layout::READY;
+use super::layout::SLOT;
 
 // The worker goes to a place.
 pub fn go(own: &mut [u64], place: u64, number: u64)
@@ -25,9 +27,20 @@ pub fn go(own: &mut [u64], place: u64, number: u64)
     own[NUMBER] = number;
 }
 
+// The worker waits with a ticket, and notes its slot, so that no look has to find it.
+pub fn wait_with(own: &mut [u64], ticket: u64, slot: u64)
+    requires { ⌜ length (now own) ≡ stationSize ⌝ }
+    ensures numbers { λ _. ⌜ now (own .exit) ≡ set (moved (now (own .entry)) LOOKING ticket) slotAt slot ⌝ }
+    ensures meaning { λ _. ⌜ ((p to : Place) (queue : List ℕ) →
+        Stationed (now (own .entry)) p queue → Coded LOOKING ticket to → Stationed (now (own .exit)) to queue) ⌝ }
+{
+    go(own, LOOKING, ticket);
+    own[SLOT] = slot;
+}
+
 // Pushes a task onto the queue.
 pub(crate) fn push(own: &mut [u64], task: u64)
-    requires { ⌜ (length (now own) ≡ stationSize) × (getD (now own) queuedAt 0 < CAPACITY) ⌝ }
+    requires { ⌜ (length (now own) ≡ stationSize) × (getD (now own) queuedAt 0 < queueSlots) ⌝ }
     ensures numbers { λ _. ⌜ now (own .exit) ≡ pushed (now (own .entry)) task ⌝ }
     ensures meaning { λ _. ⌜ ((p : Place) (queue : List ℕ) →
         Stationed (now (own .entry)) p queue → Stationed (now (own .exit)) p (queue ++ task ∷ [])) ⌝ }
@@ -42,7 +55,7 @@ pub(crate) fn push(own: &mut [u64], task: u64)
 // lies behind the buffer stays.
 pub fn drain(own: &mut [u64], ready: &mut [u64], at: u64, n: u64) -> u64
     requires { ⌜ (length (now own) ≡ stationSize) × (READY ≤ length (now ready)) × (at < READY) × (n + getD (now own) queuedAt 0 ≤ READY)
-        × (getD (now own) queuedAt 0 ≤ CAPACITY) ⌝ }
+        × (getD (now own) queuedAt 0 ≤ queueSlots) ⌝ }
     ensures numbers { λ r. ⌜ (r ≡ n + getD (now (own .entry)) queuedAt 0) × (now (own .exit) ≡ emptied (now (own .entry)))
         × (now (ready .exit) ≡ drained (now (own .entry)) (now (ready .entry)) at n (getD (now (own .entry)) queuedAt 0)) ⌝ }
     ensures station { λ _. ⌜ ((p : Place) (queue : List ℕ) → Stationed (now (own .entry)) p queue → Stationed (now (own .exit)) p []) ⌝ }

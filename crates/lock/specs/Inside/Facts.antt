@@ -121,20 +121,21 @@ module _ {W N : ℕ} {l : Lock} {st : ℕ → Stand} (i : Inv W N l st) where
       let y : st k ≡ st w = ap st (one-leader (i .leader) k w (rw q tt) (rw e tt)) in
       clash (cc)
 
-  pub front-waits : (v : ℕ) → front N l ≡ some v → (v < W) × (st v ≡ waiting (l .tail))
+  -- what stands in the slot of a ticket that was not let in with that ticket is of a worker that waits with it
+  pub entry-waits : (t v : ℕ) → l .tail ≤ t → l .registration (t % N) ≡ join t v → (v < W) × (st v ≡ waiting t)
   unfolding join
-  front-waits v e = go (i .entries .entry (l .tail % N))
+  entry-waits t v a e = go (i .entries .entry (t % N))
     where
-      holds : l .registration (l .tail % N) ≡ join (l .tail) v
-      holds = rw e at (fronted N l)
-
-      go : Entry W N (l .head) (l .tail) st (l .tail % N) (l .registration (l .tail % N)) → (v < W) × (st v ≡ waiting (l .tail))
-      go (inl z) = absurd (omega (arith, holds, i .tickets .begun))
-      go (inr (t, u, q, m, h, k, f)) =
+      go : Entry W N (l .head) (l .tail) st (t % N) (l .registration (t % N)) → (v < W) × (st v ≡ waiting t)
+      go (inl z) = absurd (omega (arith, e, i .tickets .begun))
+      go (inr (s, u, q, m, h, k, f)) =
           let few = room N (i .tickets) (i .leader) in
-          let z : t ≡ l .tail = near-mod N t (l .tail) m (omega (arith, i .sizes, few)) (omega (arith, i .sizes, holds)) in
-          let y : u ≡ v = omega (arith, holds) in
+          let z : s ≡ t = near-mod N s t m (omega (arith, i .sizes, few)) (omega (arith, i .sizes, e)) in
+          let y : u ≡ v = omega (arith, e) in
           (omega arith, rw (y, z) at (f (omega arith)))
+
+  pub front-waits : (v : ℕ) → front N l ≡ some v → (v < W) × (st v ≡ waiting (l .tail))
+  front-waits v e = entry-waits (l .tail) v (omega arith) (rw e at (fronted N l))
 
   pub waits-front : (v : ℕ) → st v ≡ waiting (l .tail) → front N l ≡ some v
   unfolding join workerIn

@@ -7,14 +7,15 @@ use Prim.Native.Nat.{ℕ, suc, _+_, _-_, _%_, _≤_, _<_}
 use native.Mathlib.Omega.{arith}
 use borrow.Author.Tests.{leb-true, leb-false, le-leb, lt-leb, eqb-true, eqb-false, eq-eqb, ne-eqb}
 use Rattle.runs.specs.Update.{same, order, clash}
-use Rattle.lock.specs.Lock.{Lock, start, turn, distance, front, isFree, notYet, receives, owns, look}
+use Rattle.runs.specs.Near.{near-mod}
+use Rattle.lock.specs.Lock.{Lock, start, turn, join, distance, front, isFree, notYet, receives, owns, look}
 use Rattle.lock.specs.History.{Stand, out, taken, waiting, owning, serving, Holds, Owner, Served, Due, Called, InCell}
 use Rattle.lock.specs.Inside.Looks.{looks-early, looks-served, looks-first, seen}
 use Rattle.lock.specs.Inside.Ring.{Slots, turn-iff}
 use Rattle.lock.specs.Inside.Invariant.{Leads, Aside, Led, free, led, Inv}
 use Rattle.lock.specs.Inside.Facts.{holds-held, held-holds, no-ticket, owner-leads, aside-served, leads-called, not-both}
-use Rattle.lock.specs.Inside.Facts.{leads-or-aside, led-by, one-leader, free-or-led, room, slot-iff, late, unfilled, front-waits}
-use Rattle.lock.specs.Inside.Facts.{waits-front}
+use Rattle.lock.specs.Inside.Facts.{leads-or-aside, led-by, one-leader, free-or-led, room, slot-iff, late, unfilled}
+use Rattle.lock.specs.Inside.Facts.{entry-waits, front-waits, waits-front}
 
 pub turn-slot : (N : ℕ) (l : Lock) → Slots N (l .tail) (l .wait) → (t : ℕ) → N ≤ t → (turn N l t ≡ true) ↔ (t < l .tail)
 unfolding turn
@@ -213,6 +214,28 @@ module _ {W N : ℕ} {l : Lock} {st : ℕ → Stand} (i : Inv W N l st) where
       go (inr h) q = inl h
       go (inl h) (inl q) = inr (inr (rw e at q))
       go (inl h) (inr a) = inr (inl (h, (e, (rw e at a) h, refl)))
+
+  -- ---- slots and laps
+
+  -- the given tickets from the newest below the tail on have each a slot of its own
+  pub slot-one : (s t : ℕ) → l .tail ≤ suc s → s < l .head → l .tail ≤ suc t → t < l .head → s % N ≡ t % N → s ≡ t
+  slot-one s t a b c d e = near-mod N s t e (omega (arith, i .sizes, ends-near)) (omega (arith, i .sizes, ends-near))
+
+  module _ (t : ℕ) (early : l .tail ≤ t) where
+    -- the slot of a ticket that was not let in has its registration exactly when its worker waits
+    pub registered-iff : (v : ℕ) → (l .registration (t % N) ≡ join t v) ↔ ((v < W) × (st v ≡ waiting t))
+    registered-iff v = (entry-waits i t v early, λ (h, e). i .entries .entered v t e early)
+
+    -- otherwise what stands there is below the ticket: a registration of an earlier lap, or none
+    pub unregistered-iff : (l .registration (t % N) < t) ↔ ((v : ℕ) → st v ≢ waiting t)
+    unfolding join
+    unregistered-iff = (
+      λ h v e. absurd (omega (arith, i .entries .entered v t e early)),
+      λ n.
+          ⊎-elim (λ (h : l .registration (t % N) < t). h)
+          (λ (h : t ≤ l .registration (t % N)). absurd (n _ ((entry-waits i t (l .registration (t % N) - t) early (omega arith)) .1)))
+          (order (l .registration (t % N)) t),
+    )
 
   -- ---- the front waiter
 

@@ -31,14 +31,14 @@ play-orders-requires c κs =
     record {
       room = start .pre .0 .0;
       long = record {
-        wait = laid .set-up .kept .1 .1 .1 .0 ∙ lengths .0;
-        registrations = laid .set-up .kept .1 .1 .1 .1 .0 ∙ lengths .1;
-        tickets = laid .set-up .kept .1 .1 .1 .1 .1 .0 ∙ lengths .2;
-        cells = laid .set-up .kept .1 .1 .1 .1 .1 .1 .0 ∙ lengths .3;
+        wait = laid .set-up .kept .1 .1 .1 .1 .0 ∙ lengths .0;
+        registrations = laid .set-up .kept .1 .1 .1 .1 .1 .0 ∙ lengths .1;
+        tickets = laid .set-up .kept .1 .1 .1 .1 .1 .1 .0 ∙ lengths .2;
+        cells = laid .set-up .kept .1 .1 .1 .1 .1 .1 .1 .0 ∙ lengths .3;
         device = lengths .4;
         tasks = record {
-          rows = laid .set-up .kept .1 .1 .1 .1 .1 .1 .1 .0 ∙ lengths .5;
-          accesses = laid .set-up .kept .1 .1 .1 .1 .1 .1 .1 .1 .0 ∙ lengths .6;
+          rows = laid .set-up .kept .1 .1 .1 .1 .1 .1 .1 .1 .0 ∙ lengths .5;
+          accesses = laid .set-up .kept .1 .1 .1 .1 .1 .1 .1 .1 .1 .0 ∙ lengths .6;
         };
       };
       text = _;
@@ -64,8 +64,8 @@ answer-of-requires c κs =
       (
         omega (arith, end .play-orders .kept .1 .1 .1 .1 .1 .1 .1 .1 .1 .1 .1 .0, start .pre .0 .0),
         end .play-orders .kept .1 .1 .1 .1 .1 .1 .1 .1 .0 ∙ lengths .4,
-        end .play-orders .kept .1 .1 .1 .1 .1 .1 .1 .1 .1 .0 ∙ laid .set-up .kept .1 .1 .1 .1 .1 .1 .1 .0 ∙ lengths .5,
-        laid .set-up .kept .1 .1 .1 .1 .1 .1 .1 .1 .1 .0 ∙ lengths .7,
+        end .play-orders .kept .1 .1 .1 .1 .1 .1 .1 .1 .1 .0 ∙ laid .set-up .kept .1 .1 .1 .1 .1 .1 .1 .1 .0 ∙ lengths .5,
+        laid .set-up .kept .1 .1 .1 .1 .1 .1 .1 .1 .1 .1 .0 ∙ lengths .7,
       ),
       (memory (end .play-orders .result) _ _ _ _ [] [] _, setupOf p, reached p (start .args .limit), sized _ p e, small _ p e (start .args .limit), made .1, held),
     )
@@ -76,7 +76,7 @@ same-length c =
     let end = answering .before .before .before .before .before .before .before .before .before .before .before in
     let playing = end .before .before .before .before .before .before .before .before .before .before .before .before in
     let laid = playing .before .before .before .before .before .before .before .before .before .before .before in
-    end .play-orders .kept .1 .1 .1 .1 .0 ∙ laid .set-up .kept .1 .1 .1 .0
+    end .play-orders .kept .1 .1 .1 .1 .0 ∙ laid .set-up .kept .1 .1 .1 .1 .0
 
 same-length-2 : tie.Need-same-length-2
 same-length-2 c =
@@ -84,7 +84,7 @@ same-length-2 c =
     let end = answering .before .before .before .before .before .before .before .before .before .before .before in
     let playing = end .before .before .before .before .before .before .before .before .before .before .before .before in
     let laid = playing .before .before .before .before .before .before .before .before .before .before .before in
-    end .play-orders .kept .1 .1 .1 .1 .1 .0 ∙ laid .set-up .kept .1 .1 .1 .1 .0
+    end .play-orders .kept .1 .1 .1 .1 .1 .0 ∙ laid .set-up .kept .1 .1 .1 .1 .1 .0
 
 same-length-3 : tie.Need-same-length-3
 same-length-3 c =
@@ -92,7 +92,7 @@ same-length-3 c =
     let end = answering .before .before .before .before .before .before .before .before .before .before .before in
     let playing = end .before .before .before .before .before .before .before .before .before .before .before .before in
     let laid = playing .before .before .before .before .before .before .before .before .before .before .before in
-    end .play-orders .kept .1 .1 .1 .1 .1 .1 .0 ∙ laid .set-up .kept .1 .1 .1 .1 .1 .0
+    end .play-orders .kept .1 .1 .1 .1 .1 .1 .0 ∙ laid .set-up .kept .1 .1 .1 .1 .1 .1 .0
 
 same-length-4 : tie.Need-same-length-4
 same-length-4 c =
@@ -100,7 +100,7 @@ same-length-4 c =
     let end = answering .before .before .before .before .before .before .before .before .before .before .before in
     let playing = end .before .before .before .before .before .before .before .before .before .before .before .before in
     let laid = playing .before .before .before .before .before .before .before .before .before .before .before in
-    end .play-orders .kept .1 .1 .1 .1 .1 .1 .1 .0 ∙ laid .set-up .kept .1 .1 .1 .1 .1 .1 .0
+    end .play-orders .kept .1 .1 .1 .1 .1 .1 .1 .0 ∙ laid .set-up .kept .1 .1 .1 .1 .1 .1 .1 .0
 
 same-length-5 : tie.Need-same-length-5
 same-length-5 c = search needs
@@ -111,7 +111,7 @@ same-length-6 c =
     let end = answering .before .before .before .before .before .before .before .before .before .before .before in
     let playing = end .before .before .before .before .before .before .before .before .before .before .before .before in
     let laid = playing .before .before .before .before .before .before .before .before .before .before .before in
-    end .play-orders .kept .1 .1 .1 .1 .1 .1 .1 .1 .1 .0 ∙ laid .set-up .kept .1 .1 .1 .1 .1 .1 .1 .0
+    end .play-orders .kept .1 .1 .1 .1 .1 .1 .1 .1 .1 .0 ∙ laid .set-up .kept .1 .1 .1 .1 .1 .1 .1 .1 .0
 
 same-length-7 : tie.Need-same-length-7
 same-length-7 c =
@@ -119,7 +119,7 @@ same-length-7 c =
     let end = answering .before .before .before .before .before .before .before .before .before .before .before in
     let playing = end .before .before .before .before .before .before .before .before .before .before .before .before in
     let laid = playing .before .before .before .before .before .before .before .before .before .before .before in
-    end .play-orders .kept .1 .1 .1 .1 .1 .1 .1 .1 .1 .1 .0 ∙ laid .set-up .kept .1 .1 .1 .1 .1 .1 .1 .1 .0
+    end .play-orders .kept .1 .1 .1 .1 .1 .1 .1 .1 .1 .1 .0 ∙ laid .set-up .kept .1 .1 .1 .1 .1 .1 .1 .1 .1 .0
 
 same-length-8 : tie.Need-same-length-8
 same-length-8 c =
@@ -127,7 +127,7 @@ same-length-8 c =
     let end = answering .before .before .before .before .before .before .before .before .before .before .before in
     let playing = end .before .before .before .before .before .before .before .before .before .before .before .before in
     let laid = playing .before .before .before .before .before .before .before .before .before .before .before in
-    laid .set-up .kept .1 .1 .1 .1 .1 .1 .1 .1 .1 .0
+    laid .set-up .kept .1 .1 .1 .1 .1 .1 .1 .1 .1 .1 .0
 
 same-length-9 : tie.Need-same-length-9
 same-length-9 c = search needs

@@ -1,4 +1,7 @@
 -- `set_up` meets its contract.
+use native.Mathlib.Omega.{arith}
+use mathlib.Core.Path.{ap, _∙_}
+use Rattle.plan.specs.Plan.{slotsOf, capacityOf}
 use Rattle.plan.specs.Accepted.{accepted-well-formed}
 use Rattle.scheduler.specs.Starting.{starts}
 use Rattle.orders.specs.Reached.{setupOf}
@@ -6,11 +9,20 @@ use borrow.Author.Needs.{needs}
 use Rattle.play.proofs.set_up.Statement.{statement}
 use Rattle.play.proofs.set_up.Tie as tie
 
+slots-of-requires : tie.Need-slots-of-requires
+slots-of-requires c κs = search needs
+
+capacity-of-requires : tie.Need-capacity-of-requires
+capacity-of-requires c κs = search needs
+
 lay-out-requires : tie.Need-lay-out-requires
 lay-out-requires c κs = search needs
 
 start-requires : tie.Need-start-requires
-start-requires c κs = search needs
+start-requires c κs =
+    let sized = c .before .before .before .before .before .before .before .before .before .before .before .before .before .before .before in
+    let (text, p, e, says) = sized .before .before .before .before .before .before .before .before .before .pre .1 in
+    omega (arith, sized .slots-of .ensures, ap slotsOf (says .form), accepted-well-formed text p e .slots-few)
 
 fresh-requires : tie.Need-fresh-requires
 fresh-requires c κs = search needs
@@ -48,9 +60,12 @@ returns c text p device store e says long zeros ungiven =
     let laying = starting .before .before .before .before .before .before .before .before .before .before .before in
     let started = starting .start .ensures in
     let laid = laying .lay-out .ensures .1 text p e (says .count) (says .tasks) in
-    let few = accepted-well-formed text p e .workers-few in (
-      rw (c .fresh .ensures, says .workers, says .count)
-          (starts (setupOf p) few _ _ _ _ _ device _ _ store long zeros ungiven (started .1 .1 .1) (laid .0) (laid .1)),
+    let holding = laying .before .before .before .before in
+    let few = accepted-well-formed text p e .workers-few in
+    let slots = holding .before .slots-of .ensures ∙ ap slotsOf (says .form) in
+    let capacity = holding .capacity-of .ensures ∙ ap capacityOf (says .form) in (
+      rw (c .fresh .ensures, says .workers, slots, capacity, says .count)
+          (starts (setupOf p) few _ _ _ _ _ device _ _ store long zeros ungiven (rw slots at (started .1 .1 .1)) (laid .0) (laid .1)),
       laid .2,
     )
 
@@ -58,6 +73,8 @@ pub set-up-spec : {M : Type 1} → statement M
 set-up-spec =
     tie.close
     (tie.spec
+    slots-of-requires
+    capacity-of-requires
     lay-out-requires
     start-requires
     fresh-requires

@@ -4,8 +4,9 @@ use native.Mathlib.Omega.{arith}
 use mathlib.Core.Path.{_≡_, ap, _∙_}
 use mathlib.Core.List.{List}
 use lib.ListN.{length, getD}
-use Rattle.steps.specs.Layout.{shareSize, numberAt, mostWorkers}
-use Rattle.steps.specs.Memory.{share}
+use lib.Seq.{getD-set-other}
+use Rattle.steps.specs.Layout.{shareSize, numberAt, queuedAt, slotAt, mostWorkers}
+use Rattle.steps.specs.Memory.{share, station}
 use Rattle.steps.proofs.Parts.{station-long}
 use Rattle.scheduler.proofs.Lending.{share-at, share-length, station-lent, second-lent, both-shares, both-later}
 use Rattle.scheduler.proofs.Draining.{drained-behind, drained-below, drained-known, drained-few, drained-room}
@@ -125,7 +126,10 @@ returns c =
     let long = s .pre .0 .0 in
     let few = s .pre .0 .1 in
     let lent = station-lent store k (below s) long in
-    let emptied = rw lent at (d .drain .ensures .1 .0) in (
+    let emptied = rw lent at (d .drain .ensures .1 .0) in
+    let slot =
+    ap (λ (own : List ℕ). getD own slotAt 0) (rw lent at (d .drain .ensures .0 .1))
+    ∙ getD-set-other (station (share store k)) queuedAt slotAt 0 0 (λ e. omega arith) in (
       λ m setup state holds fit.
           let stations = emptied-stations holds fit (s .pre .0 .2) (drains-is s) emptied in
           let lent2 = second-lent store k w (below s) few long one (d .drain .kept .0) ∙ ap (λ (f : ℕ → List ℕ). f w) stations in
@@ -133,6 +137,7 @@ returns c =
           (drain-acts holds fit (s .pre .0 .2) (drains-is s) emptied two (d .drain .last .1 .0) (d .drain .result)
           (rw lent at (d .drain .ensures .1 .1))
           (drained-behind _ _ _ _ _ (d .drain .ensures .0 .2))
+          slot
           (λ x q. rw lent2 at (e .drained .ensures setup x q (holds .device .workers)))),
       both-later store k w (below s) few long one (d .drain .kept .0) two (e .drained .kept .0),
     )

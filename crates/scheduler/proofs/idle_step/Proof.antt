@@ -73,7 +73,7 @@ slice-read-if4 c = omega (arith, own-long (c .before .before .before .before .be
 push-step-requires : tie.Need-push-step-requires
 push-step-requires c κs =
     let asked = c .before in
-    let adds = asked .before .before in
+    let adds = asked .before .before .before in
     let mail = adds .before .before in
     let stand = mail .before .before in
     let s = stand .before .before .before .before .before in (
@@ -91,13 +91,13 @@ same-length-4 c = search needs
 returns-2 : tie.Need-returns-2
 returns-2 c =
     let done = c .before .before in
-    let s = done .before .before .before .before .before .before .before .before .before .before .before .before .before in
+    let s = done .before .before .before .before .before .before .before .before .before .before .before .before .before .before in
     λ m. done .push-step .ensures (given-in m s)
 
 full-step-requires : tie.Need-full-step-requires
 full-step-requires c κs =
     let asked = c .before in
-    let adds = asked .before .before in
+    let adds = asked .before .before .before in
     let mail = adds .before .before in
     let stand = mail .before .before in
     let s = stand .before .before .before .before .before in (
@@ -115,7 +115,7 @@ same-length-5 c = search needs
 returns-3 : tie.Need-returns-3
 returns-3 c =
     let done = c .before .before in
-    let s = done .before .before .before .before .before .before .before .before .before .before .before .before .before in
+    let s = done .before .before .before .before .before .before .before .before .before .before .before .before .before .before in
     λ m. done .full-step .ensures (given-in m s)
 
 is-creating-requires : tie.Need-is-creating-requires

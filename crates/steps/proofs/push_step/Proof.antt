@@ -9,7 +9,7 @@ use Rattle.memory.specs.Memory as T
 use Rattle.steps.specs.Layout.{queuedAt}
 use Rattle.steps.specs.Memory.{station, withCounts, Able}
 use Rattle.steps.proofs.Parts.{station-at, part-at, withPart, part-lent, part-back, station-still}
-use Rattle.steps.proofs.Acting.{own-stationed, own-long, tasks-able}
+use Rattle.steps.proofs.Acting.{own-stationed, own-long, capacity-few, tasks-able}
 use Rattle.steps.proofs.Stepping.{push-acts}
 use borrow.Author.Needs.{needs}
 use Rattle.steps.proofs.push_step.Statement.{statement}
@@ -51,7 +51,8 @@ push-requires c κs =
     let d = c .before .before .before in
     let s = d .before .before .before in
     let ((m, a), at, stand, mail, adds, room) = s .pre in
-    rw (same-station s (d .give .last .0)) (own-stationed a .long, rw (station-at (s .args .own .now) queuedAt (omega arith)) room)
+    rw (same-station s (d .give .last .0))
+    (own-stationed a .long, rw (station-at (s .args .own .now) queuedAt (omega arith)) (omega (arith, room, capacity-few a)))
 
 same-length : tie.Need-same-length
 same-length c = search needs

@@ -2,7 +2,7 @@
 use mathlib.Core.Path.{refl, sym}
 use native.Mathlib.Omega.{arith}
 use borrow.Author.Needs.{needs}
-use Rattle.plan.specs.Line.{'P', 'R', 'S', 'W', workersLine, picksLine, roundsLine, seededLine, oneNumber, twoNumbers, lineBy}
+use Rattle.plan.specs.Line.{'P', 'R', 'S', 'W', workersLine, picksLine, roundsLine, seededLine, oneNumber, twoNumbers, inForm, lineBy}
 use Rattle.lines.proofs.Letters.{fields-on, whole-line, task-line, no-tab, no-letter}
 use Rattle.lines.proofs.line.read_line.Statement.{statement}
 use Rattle.lines.proofs.line.read_line.Tie as tie
@@ -71,7 +71,7 @@ returns-2 : tie.Need-returns-2
 unfolding lineBy
 returns-2 c p sums =
     let start = c .before .before .before .before .before .before .before .args in
-    whole-line (start .text .now) (start .at) 'W' (omega arith) (omega arith) (omega arith) (omega arith) (oneNumber (workersLine p))
+    whole-line (start .text .now) (start .at) 'W' (omega arith) (omega arith) (omega arith) (omega arith) (inForm (workersLine p))
     (λ fs. refl) (c .workers-line .ensures p sums)
 
 same-length : tie.Need-same-length

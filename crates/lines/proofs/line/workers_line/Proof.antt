@@ -1,7 +1,10 @@
--- `lines::line::workers_line` meets its contract: by what was read of its number. Assumes nothing.
+-- `lines::line::workers_line` meets its contract: by what was read of the workers, and whether the line goes on. Assumes nothing.
+use mathlib.Core.Path.{refl, ap}
+use mathlib.Core.Bool.{not}
 use borrow.Author.Needs.{needs}
+use Rattle.plan.specs.declared.form.Form.the-variants.{First}
 use Rattle.plan.specs.Line.{workersLine}
-use Rattle.lines.proofs.Wholes.{first-told, one-untold, one-goes-on, one-formed, workers-judged}
+use Rattle.lines.proofs.Wholes.{first-told, in-form-untold, first-formed, second-formed, workers-judged, none-yet}
 use Rattle.lines.proofs.line.workers_line.Statement.{statement}
 use Rattle.lines.proofs.line.workers_line.Tie as tie
 
@@ -14,46 +17,47 @@ enum-told c = search needs
 wrong-requires : tie.Need-wrong-requires
 wrong-requires c κs = search needs
 
-enum-known-value : tie.Need-enum-known-value
-enum-known-value c = search needs
+enum-known-workers : tie.Need-enum-known-workers
+enum-known-workers c = search needs
 
-wrong-requires-2 : tie.Need-wrong-requires-2
-wrong-requires-2 c κs = search needs
-
-returns : tie.Need-returns
-returns c p sums =
+slots-line-requires : tie.Need-slots-line-requires
+slots-line-requires c κs =
     let number = c .before .before .before in
     let start = number .before .before .before .before in
     let read = number .before .before .read-number in
-    let t = first-told (start .args .text .now) (start .args .at) (start .pre) (read .result) (read .ensures) (number .value .given .1)
+    let t = first-told (start .args .text .now) (start .args .at) (start .pre) (read .result) (read .ensures) (number .workers .given .1)
+    (c .if1 .taken) in
+    t .fields .within
+
+returns : tie.Need-returns
+returns c p sums =
+    let number = c .before .before .before .before in
+    let start = number .before .before .before .before in
+    let read = number .before .before .read-number in
+    let t = first-told (start .args .text .now) (start .args .at) (start .pre) (read .result) (read .ensures) (number .workers .given .1)
     (c .before .if1 .taken) in
-    one-goes-on (start .args .text .now) (start .args .at) (start .pre) p (c .wrong2 .ensures) (workersLine p) t
+    second-formed (workersLine p) t (c .slots-line .ensures p (t .number) (ap not (none-yet sums)) (t .held))
 
-outside-requires : tie.Need-outside-requires
-outside-requires c κs = search needs
-
-first-fault-requires : tie.Need-first-fault-requires
-first-fault-requires c κs = search needs
+form-line-requires : tie.Need-form-line-requires
+form-line-requires c κs = search needs
 
 returns-2 : tie.Need-returns-2
 returns-2 c p sums =
     let start = c .before .before .before .before .before in
     let read = c .before .before .before .read-number in
-    one-untold (start .args .text .now) (start .args .at) (start .pre) p (c .wrong .ensures) (workersLine p) (read .result) (read .ensures)
-    (c .before .enum-told .given .1)
+    in-form-untold (start .args .text .now) (start .args .at) (start .pre) p (c .wrong .ensures) (workersLine p) (read .result)
+    (read .ensures) (c .before .enum-told .given .1)
 
 returns-3 : tie.Need-returns-3
 returns-3 c p sums =
-    let number = c .before .before .before .before .before in
+    let number = c .before .before .before .before in
     let start = number .before .before .before .before in
     let read = number .before .before .read-number in
-    let t = first-told (start .args .text .now) (start .args .at) (start .pre) (read .result) (read .ensures) (number .value .given .1)
-    (c .before .before .before .if1 .left) in
-    let is = number .value .given .0 in
-    let out = c .before .outside in
-    one-formed (workersLine p) t
-    (workers-judged (start .args .sofar) p sums (is .1 .1 .0) (t .number) (is .0) (out .result) (c .first-fault .result) (t .held)
-    (out .ensures) (c .first-fault .ensures))
+    let t = first-told (start .args .text .now) (start .args .at) (start .pre) (read .result) (read .ensures) (number .workers .given .1)
+    (c .before .if1 .left) in
+    first-formed (workersLine p) t
+    (workers-judged p (t .number) First (number .workers .given .0 .1 .1 .0) (t .held) refl
+    (c .form-line .ensures p (ap not (none-yet sums))))
 
 pub workers-line-spec : {M : Type 1} → statement M
 workers-line-spec =
@@ -62,10 +66,9 @@ workers-line-spec =
     read-number-requires
     enum-told
     wrong-requires
-    enum-known-value
-    wrong-requires-2
+    enum-known-workers
+    slots-line-requires
     returns
-    outside-requires
-    first-fault-requires
+    form-line-requires
     returns-2
     returns-3)

@@ -12,7 +12,7 @@ use Rattle.lock.specs.declared.Front.{Front}
 use Rattle.lock.specs.declared.Front.the-variants.{Nobody, Waiter}
 use Rattle.lock.specs.declared.Looked.{Looked}
 use Rattle.machine.specs.Event.{found}
-use Rattle.steps.specs.Layout.{SLOTS}
+use Rattle.steps.proofs.Acting.{slots-some, slots-few}
 use Rattle.lock_steps.specs.Going.{givenBy, handedOn}
 use Rattle.lock_steps.specs.Lent.{lockIn, handedIn}
 use Rattle.lock_steps.proofs.FromLock.{tail-fits, HandsOver, Sees, told-front, told-by, hands-nobody, hands-found}
@@ -25,7 +25,7 @@ use Rattle.lock_steps.proofs.owner.hand_on.Tie as tie
 hand-over-requires : tie.Need-hand-over-requires
 hand-over-requires c κs =
     let (m, own, a) = c .before .before .before .before .before .before .pre in
-    (omega arith, omega (arith, a .long .wait), omega (arith, a .long .registrations), tail-fits a)
+    (slots-some a, omega (arith, slots-few a, a .long .wait), omega (arith, slots-few a, a .long .registrations), tail-fits a)
 
 with-ends-requires : tie.Need-with-ends-requires
 with-ends-requires c κs = search needs
@@ -38,6 +38,9 @@ abbrev begun : tie.After-hand-over → tie.Start
 begun told = told .before .before .before .before .before .before .before
 
 module _ (told : tie.After-hand-over) where
+  abbrev slots : ℕ
+  slots = begun told .args .n .slots
+
   abbrev ends : Ends
   ends = begun told .args .n .ends
 
@@ -61,32 +64,32 @@ module _ (told : tie.After-hand-over) where
 
   -- the lock before it
   abbrev lock : L.Lock
-  lock = lockIn ends before registrations tickets cells
+  lock = lockIn slots ends before registrations tickets cells
 
-  hands : HandsOver ends before after registrations w (told .hand-over .result)
+  hands : HandsOver slots ends before after registrations w (told .hand-over .result)
   hands = told .hand-over .ensures
 
-  handed-over : lockIn (told .hand-over .result .ends) after registrations tickets cells ≡ L.handOver SLOTS lock
+  handed-over : lockIn slots (told .hand-over .result .ends) after registrations tickets cells ≡ L.handOver slots lock
   handed-over = hands .1 .1 .0 tickets cells
 
   session : told .hand-over .result .by .0 ≡ w
   session =
-      told-by ends before after registrations w (told .hand-over .result) hands tickets cells
+      told-by slots ends before after registrations w (told .hand-over .result) hands tickets cells
 
-  front-is : {x : Front} → told .hand-over .result .«let_in» ≡ x → L.front SLOTS lock ≡ waiter x
+  front-is : {x : Front} → told .hand-over .result .«let_in» ≡ x → L.front slots lock ≡ waiter x
   front-is =
-      told-front ends before after registrations w (told .hand-over .result) hands tickets cells
+      told-front slots ends before after registrations w (told .hand-over .result) hands tickets cells
 
-  nobody-found : told .hand-over .result .«let_in» ≡ Nobody → handedIn lock w ≡ none
+  nobody-found : told .hand-over .result .«let_in» ≡ Nobody → handedIn slots lock w ≡ none
   nobody-found =
-      hands-nobody ends before after registrations w (told .hand-over .result) hands tickets cells
+      hands-nobody slots ends before after registrations w (told .hand-over .result) hands tickets cells
 
   -- what the worker let in finds, by what it sees
   is-found : (v : Worker) → told .hand-over .result .«let_in» ≡ Waiter v
-      → (x : Looked) → Sees after tickets cells (ends .tail .0) (v .0) x → {z : Looked} → x ≡ z
-      → handedIn lock w ≡ found w (v .0) (seen z)
+      → (x : Looked) → Sees slots after tickets cells (ends .tail .0) (v .0) x → {z : Looked} → x ≡ z
+      → handedIn slots lock w ≡ found w (v .0) (seen z)
   is-found v e x sees r =
-      hands-found ends before after registrations w (told .hand-over .result) hands tickets cells v e x sees
+      hands-found slots ends before after registrations w (told .hand-over .result) hands tickets cells v e x sees
       ∙ ap (λ y. found w (v .0) (seen y)) r
 
 look-requires : tie.Need-look-requires
@@ -95,8 +98,8 @@ look-requires c κs =
     let told = c .before .before .before .before .before .before .before .before in
     let (m, own, a) = begun told .pre in
     let few = let-in-few a (x .0 .0 .0) (front-is told (x .1)) in (
-      omega arith,
-      omega (arith, a .long .wait, told .hand-over .kept .1 .1 .0),
+      slots-some a,
+      omega (arith, slots-few a, a .long .wait, told .hand-over .kept .1 .1 .0),
       omega (arith, few, a .long .tickets),
       omega (arith, few, a .long .cells),
     )

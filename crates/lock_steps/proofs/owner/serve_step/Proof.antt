@@ -2,7 +2,7 @@
 use Prim.Native.Nat.{_<_}
 use native.Mathlib.Omega.{arith}
 use mathlib.Core.Logic.{inl, inr, ⊎-elim}
-use Rattle.steps.proofs.Acting.{own-long}
+use Rattle.steps.proofs.Acting.{own-long, slots-some, slots-few}
 use Rattle.lock_steps.proofs.FromLock.{fronts}
 use Rattle.lock_steps.proofs.Stepping.{acting, workers-few}
 use Rattle.lock_steps.proofs.Owning.{serving-few, none-acts, first-few, waiter-few, fill-acts, Alone, take-acts}
@@ -41,7 +41,10 @@ add-if2 c =
     omega (arith, serving-few (start .pre .0 .1) (start .pre .1))
 
 front-waiter-requires : tie.Need-front-waiter-requires
-front-waiter-requires c κs = search needs
+front-waiter-requires c κs =
+    let start = c .before .before .before .before .before .before .before .before .before .before .before .before in
+    let ((m, a), place) = start .pre in
+    (slots-some a, omega (arith, slots-few a, a .long .registrations))
 
 enum-known-front : tie.Need-enum-known-front
 enum-known-front c = search needs

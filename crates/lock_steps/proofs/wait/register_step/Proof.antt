@@ -1,6 +1,7 @@
 -- `wait::register_step` meets its contract.
 use native.Mathlib.Omega.{arith}
-use Rattle.steps.proofs.Acting.{own-long}
+use mathlib.Core.Path.{_∙_}
+use Rattle.steps.proofs.Acting.{own-long, slots-some, slots-few}
 use Rattle.lock_steps.proofs.Stepping.{acting}
 use Rattle.lock_steps.proofs.Waiting.{registration-fits, register-acts}
 use borrow.Author.Needs.{needs}
@@ -14,10 +15,13 @@ register-requires : tie.Need-register-requires
 register-requires c κs =
     let start = c .before .before .before .before in
     let ((m, a), place) = start .pre in
-    (omega arith, omega (arith, a .long .registrations), registration-fits a place)
+    (slots-some a, omega (arith, slots-few a, a .long .registrations), registration-fits a place)
 
-go-to-requires : tie.Need-go-to-requires
-go-to-requires c κs = own-long (c .before .before .before .before .before .before .before .before .pre .0 .1)
+slot-requires : tie.Need-slot-requires
+slot-requires c κs = slots-some (c .before .before .before .before .before .before .before .pre .0 .1)
+
+wait-at-requires : tie.Need-wait-at-requires
+wait-at-requires c κs = own-long (c .before .before .before .before .before .before .before .before .before .pre .0 .1)
 
 same-length : tie.Need-same-length
 same-length c = search needs
@@ -27,12 +31,15 @@ same-length-2 c = search needs
 
 returns : tie.Need-returns
 returns c m =
-    let at-go-to = c .before .before in
-    let at-register = at-go-to .before .before .before .before in
+    let at-wait = c .before .before in
+    let at-slot = at-wait .before .before in
+    let at-register = at-slot .before .before .before in
     let start = at-register .before .before .before .before .before in
     let register = at-register .register in
-    let gone = at-go-to .go-to in
-    acting (gone .last .0) (λ a. register-acts a (start .pre .1) (register .last .1 .0) (register .ensures) (gone .last .0) (gone .ensures))
+    let waits = at-wait .wait-at in
+    acting (waits .last .0) (λ a.
+    register-acts a (start .pre .1) (register .last .1 .0) (register .ensures) (waits .last .0) (waits .ensures .0)
+    (waits .ensures .1 ∙ at-slot .slot .ensures .0))
 
 pub register-step-spec : {M : Type 1} → statement M
 register-step-spec =
@@ -40,7 +47,8 @@ register-step-spec =
     (tie.spec
     slice-read-ticket
     register-requires
-    go-to-requires
+    slot-requires
+    wait-at-requires
     same-length
     same-length-2
     returns)
