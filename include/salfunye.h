@@ -31,19 +31,20 @@ extern "C" {
 /* No report is longer, in bytes. */
 #define SALFUNYE_REPORT_SIZE 14433
 
-/* Refusals. The first five are the plan's, with its line from 1; of two faulty
- * lines the first decides, and within a line the order is 1, 3, 2, 4, 5. The
- * others are the caller's, with line 0. */
+/* Refusals. 1 to 5 and 9 are the plan's, with its line from 1; of two faulty
+ * lines the first decides, and within a line the order is 1, 3, 2, 4, 5, in a W
+ * line 1, 3, 2, 9. The others are the caller's, with line 0. */
 enum salfunye_refusal {
     SALFUNYE_ACCEPTED = 0,
-    SALFUNYE_MALFORMED = 1,       /* no line feed, unknown first field, wrong number of fields, a field not of its form */
-    SALFUNYE_OUT_OF_RANGE = 2,    /* a number out of its range, or a picked worker that there is not */
-    SALFUNYE_MISPLACED = 3,       /* W not first or again, T after an order line; an empty text */
-    SALFUNYE_TOO_MANY = 4,        /* a 129th task or a fifth access */
-    SALFUNYE_ADDRESS_TWICE = 5,   /* an address twice in one task */
-    SALFUNYE_TEXT_TOO_LONG = 6,   /* more than SALFUNYE_TEXT_SIZE bytes; tested first */
-    SALFUNYE_STORE_TOO_SHORT = 7, /* fewer than SALFUNYE_STORE_SIZE numbers; tested second */
-    SALFUNYE_OUTPUT_TOO_SHORT = 8 /* shorter than the report; tested last */
+    SALFUNYE_MALFORMED = 1,        /* no line feed, unknown first field, wrong number of fields, a field not of its form */
+    SALFUNYE_OUT_OF_RANGE = 2,     /* a number out of its range, or a picked worker that there is not */
+    SALFUNYE_MISPLACED = 3,        /* W not first or again, T after an order line; an empty text */
+    SALFUNYE_TOO_MANY = 4,         /* a 129th task or a fifth access */
+    SALFUNYE_ADDRESS_TWICE = 5,    /* an address twice in one task */
+    SALFUNYE_TEXT_TOO_LONG = 6,    /* more than SALFUNYE_TEXT_SIZE bytes; tested first */
+    SALFUNYE_STORE_TOO_SHORT = 7,  /* fewer than SALFUNYE_STORE_SIZE numbers; tested second */
+    SALFUNYE_OUTPUT_TOO_SHORT = 8, /* shorter than the report; tested last */
+    SALFUNYE_TOO_FEW_SLOTS = 9     /* a W line that names fewer slots than workers */
 };
 
 struct salfunye_checked {
@@ -59,7 +60,7 @@ struct salfunye_ran {
 };
 
 /*
- * Checks a plan text of text_length bytes: 0, 1 to 6, with the line.
+ * Checks a plan text of text_length bytes: 0, 1 to 6 or 9, with the line.
  */
 struct salfunye_checked salfunye_check(const uint8_t *text, size_t text_length);
 

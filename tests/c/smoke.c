@@ -23,6 +23,11 @@ static int failures = 0;
 static const char listing[] = "W\t2\nT\ta\t0\nP\t1\t3\nP\t0\t5\nP\t1\t4\nP\t0\t2\n";
 static const char report[] = "E\tfinished\t14\nT\t0\ta\tover\t0\t13\t14\t1\nL\t66\t66\t1\n";
 
+/* the listing in a ring of two slots, with queues of one place; and a slot too few */
+static const char two_slots[] = "W\t2\t2\t1\nT\ta\t0\nP\t1\t3\nP\t0\t5\nP\t1\t4\nP\t0\t2\n";
+static const char two_slots_report[] = "E\tfinished\t14\nT\t0\ta\tover\t0\t13\t14\t1\nL\t4\t4\t1\n";
+static const char few_slots[] = "W\t2\t1\t8\n";
+
 static void *taken(size_t size) {
     void *room = malloc(size > 0 ? size : 1);
     if (room == NULL) {
@@ -65,6 +70,9 @@ static void bench(void) {
     EXPECT(checked.number == SALFUNYE_ADDRESS_TWICE && checked.line == 2);
     checked = salfunye_check((const uint8_t *)"", 0);
     EXPECT(checked.number == SALFUNYE_MISPLACED && checked.line == 1);
+    checked = salfunye_check((const uint8_t *)few_slots, strlen(few_slots));
+    EXPECT(checked.number == SALFUNYE_TOO_FEW_SLOTS && checked.line == 1);
+    EXPECT(SALFUNYE_TOO_FEW_SLOTS == 9);
 
     struct salfunye_ran ran = run(listing, size, UINT64_MAX, SALFUNYE_STORE_SIZE, length, report);
     EXPECT(ran.number == 0 && ran.line == 0 && ran.picks == 14);
@@ -78,6 +86,10 @@ static void bench(void) {
     EXPECT(ran.number == SALFUNYE_STORE_TOO_SHORT && ran.line == 0);
     ran = run(listing, size - 1, UINT64_MAX, SALFUNYE_STORE_SIZE, length, NULL);
     EXPECT(ran.number == SALFUNYE_MALFORMED && ran.line == 6);
+    ran = run(two_slots, strlen(two_slots), UINT64_MAX, SALFUNYE_STORE_SIZE, 100, two_slots_report);
+    EXPECT(ran.number == 0 && ran.line == 0 && ran.picks == 14);
+    ran = run(few_slots, strlen(few_slots), UINT64_MAX, SALFUNYE_STORE_SIZE, 100, NULL);
+    EXPECT(ran.number == SALFUNYE_TOO_FEW_SLOTS && ran.line == 1 && ran.picks == 0);
 
     char *large = taken(SALFUNYE_TEXT_SIZE + 1);
     memset(large, 'W', SALFUNYE_TEXT_SIZE + 1);
@@ -88,10 +100,10 @@ static void bench(void) {
     free(large);
 }
 
-/* 32 workers, 128 tasks of four accesses: every array of a run is in use. */
-static void busy(void) {
+/* 32 workers, 128 tasks of four accesses: every array of a run is in use. `sizes` is what the W line has besides. */
+static void busy(const char *sizes) {
     char *text = taken(SALFUNYE_TEXT_SIZE);
-    size_t size = (size_t)sprintf(text, "W\t32\n");
+    size_t size = (size_t)sprintf(text, "W\t32%s\n", sizes);
     for (unsigned i = 0; i < 128; i++)
         size += (size_t)sprintf(text + size, "T\tabcdefghijklmnop\t%u\tr%u\tw%u\tr%u\tw%u\n", i % 40, i % 5, 10 + i % 7, 20 + i % 3, 30 + i % 11);
     size += (size_t)sprintf(text + size, "P\t0\t900\nS\t18446744073709551615\t20000\nR\t100000\n");
@@ -152,7 +164,10 @@ static void lock(void) {
 
 int main(void) {
     bench();
-    busy();
+    busy("");
+    busy("\t32\t1");
+    busy("\t33\t16");
+    busy("\t64\t16");
     lock();
     if (failures == 0) puts("ok");
     return failures == 0 ? 0 : 1;

@@ -1,6 +1,6 @@
 //! A second implementation of the bench, written from the paper alone, so that
-//! another one can be judged beside it. Ring slots and queue capacity are
-//! parameters of the lock and the machine; `run` uses 64 and 8.
+//! another one can be judged beside it. Ring slots and queue capacity are those
+//! of the plan, of either form.
 
 pub mod lock;
 pub mod machine;

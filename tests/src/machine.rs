@@ -5,10 +5,6 @@ use std::collections::VecDeque;
 use crate::lock::{Lock, Look};
 use crate::plan::Plan;
 
-/// Ring slots and queue capacity of the paper.
-pub const SLOTS: usize = 64;
-pub const CAPACITY: usize = 8;
-
 /// Access flags, with the paper's bit numbers.
 pub mod flag {
     pub const READ: u8 = 1;
@@ -155,9 +151,10 @@ pub struct Machine {
 }
 
 impl Machine {
-    /// The state before any pick, with the given ring slots and queue capacity.
-    pub fn new(plan: &Plan, slots: usize, capacity: usize) -> Machine {
+    /// The state before any pick, with the plan's ring slots and queue capacity.
+    pub fn new(plan: &Plan) -> Machine {
         let count = plan.workers as usize;
+        let capacity = plan.form.capacity() as usize;
         let worker = Worker {
             place: Place::Free,
             task: None,
@@ -168,7 +165,7 @@ impl Machine {
             to_add: VecDeque::new(),
         };
         let mut machine = Machine {
-            lock: Lock::new(slots, count),
+            lock: Lock::new(plan.form.slots() as usize, count),
             capacity,
             owner: None,
             workers: vec![worker; count],

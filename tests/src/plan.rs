@@ -1,13 +1,17 @@
 //! The reader of plan texts.
 //!
 //! One pass with a cursor gives the form of a line; the line is then judged in
-//! the paper's order: form 1, place 3, range 2, amount 4, repeat 5.
+//! the paper's order: form 1, place 3, range 2, amount 4, repeat 5; a W line
+//! after its ranges for its slots, 9.
 
 /// The longest text that is read, in bytes.
 pub const TEXT_LIMIT: usize = 65_536;
 /// The most tasks of a plan and the most accesses of a task.
 pub const TASK_LIMIT: usize = 128;
 pub const ACCESS_LIMIT: usize = 4;
+/// Ring slots and queue capacity of a plan whose W line names the workers alone.
+pub const SLOTS: u64 = 64;
+pub const CAPACITY: u64 = 8;
 
 /// Refusal numbers, as the paper gives them.
 pub mod refusal {
@@ -19,6 +23,7 @@ pub mod refusal {
     pub const TEXT_SIZE: u8 = 6;
     pub const STORE_SIZE: u8 = 7;
     pub const OUTPUT_SIZE: u8 = 8;
+    pub const FEW_SLOTS: u8 = 9;
 }
 
 /// Lines count from 1; line 0 stands for the caller.
@@ -36,8 +41,32 @@ pub fn callers(number: u8) -> Refusal {
 #[derive(Clone, Debug, PartialEq, Eq)]
 pub struct Plan {
     pub workers: u64,
+    pub form: Form,
     pub tasks: Vec<Task>,
     pub orders: Vec<Order>,
+}
+
+/// The form of a plan, by what its W line names beside the workers.
+#[derive(Clone, Copy, Debug, PartialEq, Eq)]
+pub enum Form {
+    First,
+    Second { slots: u64, capacity: u64 },
+}
+
+impl Form {
+    pub fn slots(self) -> u64 {
+        match self {
+            Form::First => SLOTS,
+            Form::Second { slots, .. } => slots,
+        }
+    }
+
+    pub fn capacity(self) -> u64 {
+        match self {
+            Form::First => CAPACITY,
+            Form::Second { capacity, .. } => capacity,
+        }
+    }
 }
 
 #[derive(Clone, Debug, PartialEq, Eq)]
@@ -87,6 +116,7 @@ pub fn check(text: &[u8]) -> Result<Plan, Refusal> {
     }
     let mut plan = Plan {
         workers: 0,
+        form: Form::First,
         tasks: Vec::new(),
         orders: Vec::new(),
     };
@@ -116,11 +146,17 @@ impl Number {
 
 /// A well formed line, not yet judged further.
 enum Line {
-    Workers(Number),
+    Workers(WorkersLine),
     Task(TaskLine),
     Repeat(Number, Number),
     Rounds(Number),
     Seeded(Number, Number),
+}
+
+struct WorkersLine {
+    workers: Number,
+    /// Slots and capacity, in the second form.
+    sizes: Option<(Number, Number)>,
 }
 
 struct TaskLine {
@@ -136,7 +172,7 @@ impl Plan {
             return Err(refusal::PLACE);
         }
         match line {
-            Line::Workers(workers) => self.workers = workers.within(1, 32)?,
+            Line::Workers(line) => self.accept_workers(line)?,
             Line::Task(line) => self.accept_task(line)?,
             Line::Repeat(worker, times) => {
                 let worker = worker.within(0, self.workers - 1)?;
@@ -152,6 +188,19 @@ impl Plan {
                 let times = times.within(1, 1_000_000)?;
                 self.orders.push(Order::Seeded { seed, times });
             }
+        }
+        Ok(())
+    }
+
+    fn accept_workers(&mut self, line: WorkersLine) -> Result<(), u8> {
+        self.workers = line.workers.within(1, 32)?;
+        if let Some((slots, capacity)) = line.sizes {
+            let slots = slots.within(1, 64)?;
+            let capacity = capacity.within(1, 16)?;
+            if slots < self.workers {
+                return Err(refusal::FEW_SLOTS);
+            }
+            self.form = Form::Second { slots, capacity };
         }
         Ok(())
     }
@@ -221,7 +270,7 @@ impl Cursor<'_> {
         let kind = self.take()?;
         self.expect(b'\t')?;
         let line = match kind {
-            b'W' => Line::Workers(self.number()?),
+            b'W' => Line::Workers(self.workers()?),
             b'T' => Line::Task(self.task()?),
             b'P' => {
                 let worker = self.number()?;
@@ -238,6 +287,19 @@ impl Cursor<'_> {
         };
         self.expect(b'\n')?;
         Ok(line)
+    }
+
+    /// One number or three.
+    fn workers(&mut self) -> Result<WorkersLine, Malformed> {
+        let workers = self.number()?;
+        let mut sizes = None;
+        if self.peek() == Some(b'\t') {
+            self.at += 1;
+            let slots = self.number()?;
+            self.expect(b'\t')?;
+            sizes = Some((slots, self.number()?));
+        }
+        Ok(WorkersLine { workers, sizes })
     }
 
     fn task(&mut self) -> Result<TaskLine, Malformed> {

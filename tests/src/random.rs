@@ -1,20 +1,23 @@
-//! Random plan texts, accepted and damaged ones.
+//! Random plan texts of both forms, accepted and damaged ones.
 
 mod damage;
 mod draft;
+mod form;
 mod rng;
 mod sample;
 
 pub use damage::damaged;
+pub use form::{first_form, is_first_form};
 pub use rng::Rng;
 pub use sample::sample;
 
 use crate::plan::TEXT_LIMIT;
 use draft::{addresses, join, line, order_line, Line, OrderSize, Pattern, Tasks};
+use form::{form, workers_line};
 
 #[derive(Clone, Copy, Debug, PartialEq, Eq)]
 pub enum Shape {
-    /// 1 to 4 workers and up to 6 tasks; up to 14 where a queue is to be full.
+    /// 1 to 4 workers and up to 6 tasks; up to 22 where a queue is to be full.
     Small,
     /// Up to 12 workers and 40 tasks.
     Medium,
@@ -36,10 +39,12 @@ pub fn plan(rng: &mut Rng, shape: Shape) -> Vec<u8> {
 
 fn small(rng: &mut Rng) -> Vec<Line> {
     let workers = rng.between(1, 4);
-    let (pattern, count) = match rng.below(12) {
-        0 | 1 => (Pattern::Fan, rng.between(10, 14)),
-        2 | 3 => (Pattern::Burst, rng.between(9, 14)),
-        4 => (Pattern::Chain, rng.between(1, 6)),
+    let form = form(rng, workers);
+    let capacity = form.capacity();
+    let (pattern, count) = match rng.below(14) {
+        0..=2 => (Pattern::Fan, rng.between(capacity + 2, capacity + 6)),
+        3..=5 => (Pattern::Burst, rng.between(capacity + 1, capacity + 6)),
+        6 => (Pattern::Chain, rng.between(1, 6)),
         _ => (Pattern::Mixed, rng.between(0, 6)),
     };
     let pool = rng.between(1, 3) as usize;
@@ -50,10 +55,10 @@ fn small(rng: &mut Rng) -> Vec<Line> {
         max_cost: rng.choose(&[0, 1, 3]),
         max_label: 4,
     };
-    let mut lines = vec![line(&[&"W", &workers])];
+    let mut lines = vec![workers_line(workers, form)];
     lines.extend(tasks.lines(rng));
-    if count > 8 || rng.one_in(4) {
-        lines.extend(opening(rng, workers));
+    if matches!(pattern, Pattern::Fan | Pattern::Burst) || rng.one_in(4) {
+        lines.extend(opening(rng, workers, capacity));
     }
     let size = OrderSize {
         repeat: 12,
@@ -82,22 +87,25 @@ fn add_orders(
 }
 
 /// Worker 0 creates alone for a while, perhaps with the last one in its way: so a
-/// queue gets full, and the try of the lock wins or fails.
-fn opening(rng: &mut Rng, workers: u64) -> Vec<Line> {
+/// queue of this capacity gets full, and the try of the lock wins or fails.
+fn opening(rng: &mut Rng, workers: u64, capacity: u64) -> Vec<Line> {
     let mut lines = Vec::new();
     if rng.one_in(2) {
         lines.push(line(&[&"P", &(workers - 1), &rng.between(1, 3)]));
     }
-    lines.push(line(&[&"P", &0, &rng.between(20, 60)]));
+    let times = rng.between(2 * capacity + 4, 4 * capacity + 28);
+    lines.push(line(&[&"P", &0, &times]));
     // Then the last one alone: after a fan's writer the readers are its to add.
     if rng.one_in(2) {
-        lines.push(line(&[&"P", &(workers - 1), &rng.between(30, 80)]));
+        let times = rng.between(3 * capacity + 6, 3 * capacity + 56);
+        lines.push(line(&[&"P", &(workers - 1), &times]));
     }
     lines
 }
 
 fn medium(rng: &mut Rng) -> Vec<Line> {
     let workers = rng.between(1, 12);
+    let form = form(rng, workers);
     let pattern = rng.choose(&[
         Pattern::Mixed,
         Pattern::Mixed,
@@ -113,10 +121,10 @@ fn medium(rng: &mut Rng) -> Vec<Line> {
         max_cost: rng.choose(&[0, 3, 20, 100]),
         max_label: 16,
     };
-    let mut lines = vec![line(&[&"W", &workers])];
+    let mut lines = vec![workers_line(workers, form)];
     lines.extend(tasks.lines(rng));
-    if rng.one_in(3) {
-        lines.extend(opening(rng, workers));
+    if matches!(pattern, Pattern::Fan | Pattern::Burst) || rng.one_in(3) {
+        lines.extend(opening(rng, workers, form.capacity()));
     }
     let size = OrderSize {
         repeat: 60,
@@ -160,7 +168,7 @@ fn large_tasks(rng: &mut Rng, workers: u64) -> Vec<Line> {
         max_cost: rng.choose(&[0, 10, 100, 1_000]),
         max_label: 16,
     };
-    let mut lines = vec![line(&[&"W", &workers])];
+    let mut lines = vec![workers_line(workers, form(rng, workers))];
     lines.extend(tasks.lines(rng));
     lines
 }

@@ -1,6 +1,6 @@
 //! Running a plan text with a pick limit, a store and an output.
 
-use crate::machine::{Machine, CAPACITY, SLOTS};
+use crate::machine::Machine;
 use crate::order::Picks;
 use crate::plan::{callers, check, refusal, Plan, Refusal, TEXT_LIMIT};
 use crate::report::{refusal_line, report};
@@ -30,7 +30,7 @@ pub fn run(
     }
     store[..STORE_SIZE].fill(0);
     let plan = check(text)?;
-    let machine = play(&plan, limit, SLOTS, CAPACITY);
+    let machine = play(&plan, limit);
     let bytes = report(text, &plan, &machine);
     if output.len() < bytes.len() {
         return Err(callers(refusal::OUTPUT_SIZE));
@@ -44,8 +44,8 @@ pub fn run(
 
 /// The state after the plan's order: stops at the limit, the end of the order
 /// or when finished.
-pub fn play(plan: &Plan, limit: u64, slots: usize, capacity: usize) -> Machine {
-    let mut machine = Machine::new(plan, slots, capacity);
+pub fn play(plan: &Plan, limit: u64) -> Machine {
+    let mut machine = Machine::new(plan);
     let mut picks = Picks::new(plan);
     while machine.picks < limit && !machine.finished() {
         match picks.next() {
@@ -59,7 +59,7 @@ pub fn play(plan: &Plan, limit: u64, slots: usize, capacity: usize) -> Machine {
 /// What the program prints: the report, or the line of the refusal.
 pub fn answer_bytes(text: &[u8], limit: u64) -> Vec<u8> {
     match check(text) {
-        Ok(plan) => report(text, &plan, &play(&plan, limit, SLOTS, CAPACITY)),
+        Ok(plan) => report(text, &plan, &play(&plan, limit)),
         Err(refusal) => refusal_line(refusal),
     }
 }

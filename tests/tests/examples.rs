@@ -4,7 +4,6 @@ use std::io::Write;
 use std::process::{Command, Stdio};
 
 use second::lock::{Handed, Lock};
-use second::machine::{CAPACITY, SLOTS};
 use second::plan::{check, Refusal};
 use second::run::{answer_bytes, play};
 use second::text::lines;
@@ -111,7 +110,7 @@ fn address_twice_and_five_accesses() {
 fn chain_flags() {
     for workers in 1..=4 {
         let text = lines(&[&format!("W {workers}"), "T a 0 w5", "T b 0 r5", "R 1000"]);
-        let machine = play(&check(&text).unwrap(), u64::MAX, SLOTS, CAPACITY);
+        let machine = play(&check(&text).unwrap(), u64::MAX);
         assert!(machine.finished());
         let flags: Vec<u8> = machine.accesses.iter().map(|access| access.flags).collect();
         assert_eq!(flags, [63, 7]);
@@ -206,7 +205,7 @@ fn old_cell() {
     let plan = [
         "W 3", "T a 0", "T b 9", "P 1 3", "P 0 8", "P 1 7", "P 2 3", "P 0 4", "P 2 5",
     ];
-    let machine = play(&check(&lines(&plan)).unwrap(), u64::MAX, SLOTS, CAPACITY);
+    let machine = play(&check(&lines(&plan)).unwrap(), u64::MAX);
     assert!(machine.lock.turn(67) && machine.lock.cells[0] == (65, 0));
     let report = "E open 30\nT 0 a over 0 22 23 1\nT 1 b run 1 17 - 1\nL 68 68 -\n";
     assert_eq!(shown(&plan), report);
@@ -266,7 +265,7 @@ fn full_queue_and_try() {
         all.extend(["T a 0"; 9]);
         all.extend_from_slice(orders);
         let text = lines(&all);
-        play(&check(&text).unwrap(), u64::MAX, SLOTS, CAPACITY)
+        play(&check(&text).unwrap(), u64::MAX)
     };
     let full = burst(&["P 0 27"]);
     assert_eq!(
@@ -305,7 +304,7 @@ fn try_after_a_drain() {
     let mut plan = vec!["W 2"];
     plan.extend(["T a 0"; 9]);
     plan.extend(["P 0 27", "P 1 4", "P 0 1"]);
-    let machine = play(&check(&lines(&plan)).unwrap(), u64::MAX, SLOTS, CAPACITY);
+    let machine = play(&check(&lines(&plan)).unwrap(), u64::MAX);
     assert!(machine.workers[0].queue.is_empty());
     assert_eq!((machine.counters.tries_failed, machine.lock.head), (1, 65));
     assert_eq!(machine.workers[0].to_add, [8]);
@@ -320,7 +319,7 @@ fn late_successor() {
         let order = format!("P 0 {count}");
         let mut all = plan.to_vec();
         all.push(&order);
-        play(&check(&lines(&all)).unwrap(), u64::MAX, SLOTS, CAPACITY)
+        play(&check(&lines(&all)).unwrap(), u64::MAX)
     };
     // 1 open, 2 link, 3 deliver, 4 close, 5 push; 6 open, 7 link (NEXT), 8 deliver, 9 close.
     let linked = steps(9);
@@ -348,7 +347,7 @@ fn late_successor() {
 #[test]
 fn readers_together() {
     let text = lines(&["W 1", "T a 0 r5", "T b 0 r5", "T c 0 w5", "P 0 19"]);
-    let machine = play(&check(&text).unwrap(), u64::MAX, SLOTS, CAPACITY);
+    let machine = play(&check(&text).unwrap(), u64::MAX);
     // Steps: open link deliver close push; open link deliver(passes READ) deliver notice
     // close push; open link deliver(passes READ) deliver notice close; ticket.
     let flags: Vec<u8> = machine.accesses.iter().map(|access| access.flags).collect();

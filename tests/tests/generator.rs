@@ -2,10 +2,10 @@
 
 use std::collections::BTreeMap;
 
-use second::machine::{Counters, Machine, Place, CAPACITY, SLOTS};
+use second::machine::{Counters, Machine, Place};
 use second::order::Picks;
-use second::plan::{check, Order, Plan};
-use second::random::{damaged, plan, sample, Rng, Shape};
+use second::plan::{check, Form, Order, Plan};
+use second::random::{damaged, first_form, is_first_form, plan, sample, Rng, Shape};
 use second::run::play;
 
 fn texts(shape: Shape, count: usize, seed: u64) -> Vec<Vec<u8>> {
@@ -14,12 +14,12 @@ fn texts(shape: Shape, count: usize, seed: u64) -> Vec<Vec<u8>> {
 }
 
 fn played(plan: &Plan) -> Machine {
-    play(plan, u64::MAX, SLOTS, CAPACITY)
+    play(plan, u64::MAX)
 }
 
 /// Plays step by step; tells too whether a worker other than 0 tried the lock.
 fn watched(plan: &Plan) -> (Machine, bool) {
-    let mut machine = Machine::new(plan, SLOTS, CAPACITY);
+    let mut machine = Machine::new(plan);
     let mut other_tried = false;
     for worker in Picks::new(plan) {
         if machine.finished() {
@@ -77,6 +77,28 @@ impl Seen {
         self.add("open", !machine.finished());
     }
 
+    /// What a plan of the second form has, and does with it.
+    fn add_sizes(&mut self, plan: &Plan, machine: &Machine) {
+        let Form::Second { slots, capacity } = plan.form else {
+            return;
+        };
+        let (full, lap) = (
+            machine.counters.full_queue > 0,
+            machine.lock.tail > 2 * slots,
+        );
+        let tight = slots == plan.workers;
+        self.add("as many slots as workers", tight);
+        self.add("one slot more", slots == plan.workers + 1);
+        self.add("no power of two", !slots.is_power_of_two());
+        self.add("a second lap", lap);
+        self.add("a second lap with no slot to spare", lap && tight);
+        self.add("capacity 1", capacity == 1);
+        self.add("capacity 16", capacity == 16);
+        self.add("a full queue of 1", full && capacity == 1);
+        self.add("a full queue of 2 to 7", full && (2..8).contains(&capacity));
+        self.add("a full queue of more than 8", full && capacity > 8);
+    }
+
     fn each_at_least(&self, count: usize) {
         for (name, &runs) in &self.0 {
             assert!(runs >= count, "{name}: {runs} runs; {self:?}");
@@ -104,7 +126,7 @@ fn shapes_are_accepted() {
         for text in texts(shape, count, 3) {
             let plan = check(&text).unwrap_or_else(|refusal| panic!("{shape:?}: {refusal:?}"));
             match shape {
-                Shape::Small => assert!(plan.workers <= 4 && plan.tasks.len() <= 14),
+                Shape::Small => assert!(plan.workers <= 4 && plan.tasks.len() <= 22),
                 Shape::Medium => assert!(plan.workers <= 12 && plan.tasks.len() <= 40),
                 Shape::Large => assert!(plan.workers == 32 && plan.tasks.len() == 128),
                 Shape::Full => assert!(text.len() >= 65_533),
@@ -125,9 +147,35 @@ fn small_and_medium_runs_hit_what_matters() {
             let (machine, other_tried) = watched(&plan);
             seen.add_run(&plan, &machine);
             seen.add("try by another than worker 0", other_tried);
+            seen.add("first form", plan.form == Form::First);
+            seen.add_sizes(&plan, &machine);
         }
         seen.each_at_least(20);
     }
+}
+
+/// A text drawn as one of the first form has no W line with sizes, whether it is
+/// refused or not; every refusal but 9 is met.
+#[test]
+fn first_form_alone() {
+    let rng = &mut Rng::new(11);
+    let mut counts = [0usize; 10];
+    for _ in 0..2_000 {
+        let text = first_form(rng, |rng| match rng.below(3) {
+            0 => plan(rng, Shape::Small),
+            _ => damaged(rng),
+        });
+        assert!(is_first_form(&text));
+        match check(&text) {
+            Ok(plan) => assert_eq!(plan.form, Form::First),
+            Err(refusal) => counts[usize::from(refusal.number)] += 1,
+        }
+    }
+    assert!(counts[1..=6].iter().all(|&count| count >= 50), "{counts:?}");
+    assert_eq!(counts[9], 0);
+    assert!(!is_first_form(b"W\t1\t1\t1\n"));
+    assert!(!is_first_form(b"W\t1\nR\t1\nW\tx\t\t1\n"));
+    assert!(is_first_form(b"W\t1\nW\t1\t1\nW\t1\t1\t1\t1\nP\t0\t1\t1\n"));
 }
 
 #[test]
@@ -142,13 +190,41 @@ fn large_runs() {
 #[test]
 fn damaged_texts_give_each_refusal_often() {
     let rng = &mut Rng::new(8);
-    let mut counts = [0usize; 7];
+    let mut counts = [0usize; 10];
     for _ in 0..4_000 {
         let number = check(&damaged(rng)).map_or_else(|refusal| refusal.number, |_| 0);
         counts[usize::from(number)] += 1;
     }
-    assert!(counts[1..].iter().all(|&count| count >= 200), "{counts:?}");
+    let often = |&number: &usize| counts[number] >= 200;
+    assert!([1, 2, 3, 4, 5, 6, 9].iter().all(often), "{counts:?}");
     assert!(counts[0] <= 1_500, "{counts:?}");
+}
+
+/// Damaged W lines of three numbers: each refusal that one can have, and 9 for
+/// one slot too few.
+#[test]
+fn damaged_sizes() {
+    let rng = &mut Rng::new(9);
+    let mut counts = [0usize; 10];
+    let mut one_too_few = 0;
+    for _ in 0..4_000 {
+        let text = damaged(rng);
+        let line = text.split(|&byte| byte == b'\n').next().unwrap_or_default();
+        let fields: Vec<&[u8]> = line.split(|&byte| byte == b'\t').collect();
+        if fields[0] != b"W" || fields.len() < 3 {
+            continue;
+        }
+        let number = match check(&text) {
+            Err(refusal) if refusal.line == 1 => refusal.number,
+            _ => 0,
+        };
+        counts[usize::from(number)] += 1;
+        let value = |field: &[u8]| std::str::from_utf8(field).map_or(0, |f| f.parse().unwrap_or(0));
+        one_too_few += u64::from(number == 9 && value(fields[1]) == value(fields[2]) + 1);
+    }
+    let often = |&number: &usize| counts[number] >= 100;
+    assert!([1, 2, 9].iter().all(often), "{counts:?}");
+    assert!(one_too_few >= 100, "{one_too_few}");
 }
 
 /// Lines beyond the first few are refused too, not only the beginning.
@@ -173,7 +249,7 @@ fn samples_are_small() {
         let text = sample(seed);
         assert!(text.len() <= 400);
         if let Ok(plan) = check(&text) {
-            assert!(plan.workers <= 6 && plan.tasks.len() <= 14, "{seed}");
+            assert!(plan.workers <= 6 && plan.tasks.len() <= 20, "{seed}");
             assert!(plan.tasks.iter().all(|task| task.cost <= 3), "{seed}");
             let picks: u64 = plan
                 .orders
@@ -188,18 +264,30 @@ fn samples_are_small() {
 #[test]
 fn three_hundred_samples_hit_what_matters() {
     let mut seen = Seen::default();
-    let mut refusals = [0usize; 6];
+    let mut refusals = [0usize; 10];
     for seed in 0..300 {
         match check(&sample(seed)) {
-            Ok(plan) => seen.add_run(&plan, &played(&plan)),
+            Ok(plan) => {
+                let machine = played(&plan);
+                seen.add_run(&plan, &machine);
+                seen.add_sizes(&plan, &machine);
+            }
             Err(refusal) => refusals[usize::from(refusal.number)] += 1,
         }
     }
     seen.each_at_least(8);
-    assert!(
-        refusals[1..].iter().all(|&count| count >= 4),
-        "{refusals:?}"
-    );
+    let met = |&number: &usize| refusals[number] >= 4;
+    assert!([1, 2, 3, 4, 5, 9].iter().all(met), "{refusals:?}");
     let refused: usize = refusals.iter().sum();
     assert!((30..=75).contains(&refused), "{refused}");
+}
+
+/// Of any row of samples at least two in five have a W line of the second form.
+#[test]
+fn samples_of_both_forms() {
+    let second = |seed: &u64| !is_first_form(&sample(*seed));
+    for first in (0..3_000).step_by(100) {
+        let count = (first..first + 100).filter(second).count();
+        assert!((40..=65).contains(&count), "{count} from seed {first}");
+    }
 }

@@ -3,7 +3,7 @@
 
 use second::lock::{Handed, Lock, Look};
 use second::machine::{Machine, Place, State};
-use second::plan::{check, Plan};
+use second::plan::{check, Form, Plan};
 use second::random::{plan, Rng, Shape};
 
 /// A wait, from the registering pick on.
@@ -40,10 +40,10 @@ struct Watch<'p> {
 }
 
 impl<'p> Watch<'p> {
-    fn new(plan: &'p Plan, slots: usize, capacity: usize, regular: Option<u64>) -> Watch<'p> {
+    fn new(plan: &'p Plan, regular: Option<u64>) -> Watch<'p> {
         Watch {
             plan,
-            machine: Machine::new(plan, slots, capacity),
+            machine: Machine::new(plan),
             waits: vec![None; plan.workers as usize],
             receipts: vec![Vec::new(); plan.tasks.len()],
             endings: vec![Vec::new(); plan.tasks.len()],
@@ -73,6 +73,7 @@ impl<'p> Watch<'p> {
         self.follow_waits(worker, place, self.machine.lock.tail - tail);
         self.follow_tasks(worker, place, &states);
         self.turns();
+        self.front_waiter();
         self.places();
         self.givers();
         self.owner_and_limits();
@@ -90,10 +91,14 @@ impl<'p> Watch<'p> {
         }
     }
 
+    fn waits_with(&self, ticket: u64) -> Option<usize> {
+        let with = |wait: &Option<Wait>| wait.is_some_and(|wait| wait.ticket == ticket);
+        self.waits.iter().position(with)
+    }
+
     /// The hand-over of `ticket`: who waits with it is let in, nobody where it isn't registered.
     fn follow_hand_over(&mut self, by: usize, ticket: u64) {
-        let waits_with = |wait: &Option<Wait>| wait.is_some_and(|wait| wait.ticket == ticket);
-        if let Some(let_in) = self.waits.iter().position(waits_with) {
+        if let Some(let_in) = self.waits_with(ticket) {
             let (filled_for, task) = self.machine.lock.cells[let_in];
             if filled_for == ticket {
                 let pick = self.machine.picks;
@@ -147,6 +152,12 @@ impl<'p> Watch<'p> {
                 assert_eq!(turn, wait.hand_overs >= wait.distance);
             }
         }
+    }
+
+    /// Who waits with the tail is the front waiter: no registration of an earlier lap is.
+    fn front_waiter(&self) {
+        let lock = &self.machine.lock;
+        assert_eq!(lock.front(), self.waits_with(lock.tail));
     }
 
     fn follow_tasks(&mut self, worker: usize, place: Place, before: &[State]) {
@@ -430,12 +441,19 @@ fn finishing_figure(plan: &Plan, regular: u64) -> u64 {
     regular * (4 * plan.workers + 8) * (7 * tasks + 7 * accesses + cost)
 }
 
-/// Plays a plan with a list of picks; gives whether it finished.
-fn play(rng: &mut Rng, plan: &Plan, list: List, slots: usize, capacity: usize, most: u64) -> bool {
+/// The plan with this ring and these queues.
+fn sized(plan: &Plan, slots: u64, capacity: u64) -> Plan {
+    let mut plan = plan.clone();
+    plan.form = Form::Second { slots, capacity };
+    plan
+}
+
+/// Plays a plan with a list of picks; gives the state it ends with.
+fn play(rng: &mut Rng, plan: &Plan, list: List, most: u64) -> Machine {
     let mut picker = Picker::new(list, plan.workers as usize);
     let regular = picker.regular();
     let limit = regular.map_or(most, |regular| finishing_figure(plan, regular));
-    let mut watch = Watch::new(plan, slots, capacity, regular);
+    let mut watch = Watch::new(plan, regular);
     while !watch.machine.finished() && watch.machine.picks < limit {
         let worker = picker.next(rng, &watch.machine);
         watch.step(worker);
@@ -447,8 +465,8 @@ fn play(rng: &mut Rng, plan: &Plan, list: List, slots: usize, capacity: usize, m
         regular.is_none() || watch.machine.finished(),
         "the finishing figure"
     );
-    assert!(watch.machine.lock.tail == slots as u64 + 1 + watch.hand_overs);
-    watch.machine.finished()
+    assert!(watch.machine.lock.tail == plan.form.slots() + 1 + watch.hand_overs);
+    watch.machine
 }
 
 /// A random plan whose order lines are not used.
@@ -457,16 +475,15 @@ fn random_plan(rng: &mut Rng, shape: Shape) -> Plan {
 }
 
 /// A ring from the number of workers up, often the smallest.
-fn ring(rng: &mut Rng, workers: u64) -> usize {
-    let slots = match rng.below(4) {
+fn ring(rng: &mut Rng, workers: u64) -> u64 {
+    match rng.below(4) {
         0 | 1 => workers,
         2 => workers + rng.below(5),
         _ => 64,
-    };
-    slots as usize
+    }
 }
 
-fn capacity(rng: &mut Rng) -> usize {
+fn capacity(rng: &mut Rng) -> u64 {
     rng.choose(&[1, 1, 2, 3, 8, 16])
 }
 
@@ -487,8 +504,8 @@ fn play_many(seed: u64, shape: Shape, plans: usize, most: u64) {
     for _ in 0..plans {
         let plan = random_plan(rng, shape);
         for list in lists(rng, plan.workers) {
-            let (slots, capacity) = (ring(rng, plan.workers), capacity(rng));
-            finished += usize::from(play(rng, &plan, list, slots, capacity, most));
+            let plan = sized(&plan, ring(rng, plan.workers), capacity(rng));
+            finished += usize::from(play(rng, &plan, list, most).finished());
         }
     }
     assert!(finished >= 4 * plans, "{finished} of {}", 5 * plans);
@@ -504,7 +521,7 @@ fn medium_plans() {
     play_many(12, Shape::Medium, 200, 200_000);
 }
 
-/// The paper's own ring and capacity, with 32 workers; fewer tasks than the shape has.
+/// 32 workers; fewer tasks than the shape has.
 #[test]
 fn large_plans() {
     let rng = &mut Rng::new(13);
@@ -513,8 +530,27 @@ fn large_plans() {
         plan.tasks.truncate(40);
         plan.tasks.iter_mut().for_each(|task| task.cost %= 20);
         for list in [List::RoundRobin, List::Hostile(50), List::Random] {
-            assert!(play(rng, &plan, list, 64, 8, 2_000_000));
-            assert!(play(rng, &plan, list, 32, 1, 2_000_000));
+            for (slots, capacity) in [(64, 8), (32, 1), (33, 16)] {
+                let plan = sized(&plan, slots, capacity);
+                assert!(play(rng, &plan, list, 2_000_000).finished());
+            }
+        }
+    }
+}
+
+/// Rings of exactly as many slots as workers, over several laps.
+#[test]
+fn tight_rings() {
+    let rng = &mut Rng::new(16);
+    for workers in 1..=32 {
+        let mut text = format!("W\t{workers}\t{workers}\t2\n");
+        text.push_str(&"T\ta\t2\tw5\n".repeat(8 + 3 * workers));
+        let plan = check(text.as_bytes()).unwrap();
+        for list in [List::RoundRobin, List::Bursts, List::Random] {
+            let machine = play(rng, &plan, list, 2_000_000);
+            assert!(machine.finished());
+            let laps = machine.lock.tail / plan.form.slots();
+            assert!(laps >= 4, "{workers} workers, {list:?}: {laps} laps");
         }
     }
 }
@@ -528,7 +564,8 @@ fn hostile_lists_keep_their_bound() {
         let workers = plan.workers as usize;
         let regular = workers as u64 + rng.below(8);
         let mut picker = Picker::new(List::Hostile(regular), workers);
-        let mut machine = Machine::new(&plan, workers, 8);
+        let plan = sized(&plan, plan.workers, 8);
+        let mut machine = Machine::new(&plan);
         let mut picks = Vec::new();
         for _ in 0..200 {
             let worker = picker.next(rng, &machine);

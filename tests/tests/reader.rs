@@ -1,10 +1,10 @@
 //! The reader beside a slow one that splits the text into lines and fields and
 //! asks every question of every line.
 
-use second::plan::{check, Access, Label, Order, Plan, Refusal, Task};
+use second::plan::{check, Access, Form, Label, Order, Plan, Refusal, Task};
 use second::random::{damaged, plan, sample, Rng, Shape};
 
-const ASKED_IN_ORDER: [u8; 5] = [1, 3, 2, 4, 5];
+const ASKED_IN_ORDER: [u8; 6] = [1, 3, 2, 4, 5, 9];
 
 fn split(text: &[u8]) -> Vec<(usize, Vec<u8>, bool)> {
     let mut found = Vec::new();
@@ -49,7 +49,8 @@ fn is_access(field: &[u8]) -> bool {
 fn well_formed(fields: &[&[u8]]) -> bool {
     let numbers = |count: usize| fields.len() == count && fields[1..].iter().all(|f| is_number(f));
     match fields[0] {
-        b"W" | b"R" => numbers(2),
+        b"W" => numbers(2) || numbers(4),
+        b"R" => numbers(2),
         b"P" | b"S" => numbers(3),
         b"T" => {
             fields.len() >= 3
@@ -76,7 +77,11 @@ fn has_fault(number: u8, fields: &[&[u8]], ended: bool, before: &Before) -> bool
         1 => !ended || !well_formed(fields),
         3 => (kind == b"W") != (before.line == 1) || (kind == b"T" && before.orders > 0),
         2 => match kind {
-            b"W" => !within(fields[1], 1, 32),
+            b"W" => {
+                let ends = [(1, 32), (1, 64), (1, 16)];
+                let mut numbers = fields[1..].iter().zip(ends);
+                numbers.any(|(f, (low, high))| !within(f, low, high))
+            }
             b"T" => {
                 !within(fields[2], 0, 1_000)
                     || fields[3..].iter().any(|f| !within(&f[1..], 0, 65_535))
@@ -86,7 +91,7 @@ fn has_fault(number: u8, fields: &[&[u8]], ended: bool, before: &Before) -> bool
             _ => value(fields[1]) >= 1 << 64 || !within(fields[2], 1, 1_000_000),
         },
         4 => kind == b"T" && (before.tasks == 128 || fields.len() > 7),
-        _ => {
+        5 => {
             let mut addresses: Vec<&[u8]> = fields[3.min(fields.len())..]
                 .iter()
                 .map(|f| &f[1..])
@@ -94,6 +99,7 @@ fn has_fault(number: u8, fields: &[&[u8]], ended: bool, before: &Before) -> bool
             addresses.sort();
             kind == b"T" && addresses.windows(2).any(|pair| pair[0] == pair[1])
         }
+        _ => kind == b"W" && fields.len() == 4 && value(fields[2]) < value(fields[1]),
     }
 }
 
@@ -106,6 +112,7 @@ fn slow_check(text: &[u8]) -> Result<Plan, Refusal> {
     }
     let mut plan = Plan {
         workers: 0,
+        form: Form::First,
         tasks: Vec::new(),
         orders: Vec::new(),
     };
@@ -133,7 +140,13 @@ fn slow_check(text: &[u8]) -> Result<Plan, Refusal> {
 fn note(plan: &mut Plan, fields: &[&[u8]], start: usize) {
     let number = |at: usize| value(fields[at]) as u64;
     match fields[0] {
-        b"W" => plan.workers = number(1),
+        b"W" => {
+            plan.workers = number(1);
+            if fields.len() == 4 {
+                let (slots, capacity) = (number(2), number(3));
+                plan.form = Form::Second { slots, capacity };
+            }
+        }
         b"T" => plan.tasks.push(Task {
             label: Label {
                 start: start + 2,
@@ -194,32 +207,52 @@ fn all_short_texts() {
     for length in 0..=6u32 {
         for code in 0..BYTES.len().pow(length) {
             let mut rest = code;
-            let mut text = b"W\t1\n".to_vec();
+            let mut short = Vec::new();
             for _ in 0..length {
-                text.push(BYTES[rest % BYTES.len()]);
+                short.push(BYTES[rest % BYTES.len()]);
                 rest /= BYTES.len();
             }
-            compare(&text);
-            compare(&text[4..]);
+            for before in [&b""[..], b"W\t1\n", b"W\t10\t"] {
+                compare(&[before, &short].concat());
+            }
         }
     }
+}
+
+/// Every three numbers that a W line may have, and those next to their ends.
+#[test]
+fn all_sizes() {
+    let mut accepted = 0;
+    for workers in 0..=33 {
+        for slots in 0..=65 {
+            for capacity in 0..=17 {
+                let text = format!("W\t{workers}\t{slots}\t{capacity}\n");
+                compare(text.as_bytes());
+                accepted += u64::from(check(text.as_bytes()).is_ok());
+            }
+        }
+    }
+    let rings: u64 = (1..=32).map(|workers| 65 - workers).sum();
+    assert_eq!(accepted, rings * 16);
 }
 
 /// Every byte value at every position of a sound text, put in or in place.
 #[test]
 fn every_single_byte_change() {
-    let text = second::text::lines(&["W 3", "T a-1 10 r5 w65535", "P 2 1", "R 1", "S 1 1"]);
-    for at in 0..=text.len() {
-        for byte in 0..=255u8 {
-            let mut inserted = text.clone();
-            inserted.insert(at, byte);
-            compare(&inserted);
-            if at < text.len() {
-                let mut replaced = text.clone();
-                replaced[at] = byte;
-                compare(&replaced);
+    for first in ["W 3", "W 3 10 8"] {
+        let text = second::text::lines(&[first, "T a-1 10 r5 w65535", "P 2 1", "R 1", "S 1 1"]);
+        for at in 0..=text.len() {
+            for byte in 0..=255u8 {
+                let mut inserted = text.clone();
+                inserted.insert(at, byte);
+                compare(&inserted);
+                if at < text.len() {
+                    let mut replaced = text.clone();
+                    replaced[at] = byte;
+                    compare(&replaced);
+                }
             }
+            compare(&text[..at]);
         }
-        compare(&text[..at]);
     }
 }

@@ -34,6 +34,26 @@ fn forms() {
         b"W\t\n",
         b"W\t1\t\n",
         b"W\t1\t1\n",
+        b"W\t4\t4\n",
+        b"W\t4\t4\t8\t1\n",
+        b"W\t4\t4\t8\t\n",
+        b"W\t4\t4\t\n",
+        b"W\t4\t\t8\n",
+        b"W\t\t4\t8\n",
+        b"W\t4\t4\t-\n",
+        b"W\t4\t-\t8\n",
+        b"W\t-\t4\t8\n",
+        b"W\t4\t4\t08\n",
+        b"W\t4\t04\t8\n",
+        b"W\t04\t4\t8\n",
+        b"W\t4\t4\t00\n",
+        b"W\t4\t4\t+8\n",
+        b"W\t4\t4\t8 \n",
+        b"W\t4\t4 \t8\n",
+        b"W\t4\t4\tx\n",
+        b"W\t4\t4\t8\r\n",
+        b"W\t4\t4\t8",
+        b"W\t4 4\t8\n",
         b"\tW\t1\n",
         b"W\t01\n",
         b"W\t00\n",
@@ -122,6 +142,82 @@ fn places() {
     // Form before place.
     assert_eq!(refused(&["W 1", "R 1", "T a"]), (1, 3));
     assert_eq!(refused(&["W 1", "W x"]), (1, 2));
+}
+
+/// A W line of either form again, after one of either form.
+#[test]
+fn workers_again() {
+    for first in ["W 2", "W 2 2 1"] {
+        for again in ["W 2", "W 2 2 1", "W 2 1 1", "W 2 65 1", "W 0 0 0"] {
+            assert_eq!(refused(&[first, again]), (3, 2), "{first}, {again}");
+            assert_eq!(refused(&[first, "T a 0", "R 1", again]), (3, 4));
+        }
+        assert_eq!(refused(&[first, "W 2 2"]), (1, 2));
+        assert_eq!(refused(&["T a 0", first]), (3, 1));
+    }
+}
+
+#[test]
+fn slots_and_capacity() {
+    for line in [
+        "W 1 1 1",
+        "W 4 4 8",
+        "W 31 32 8",
+        "W 32 32 1",
+        "W 32 64 16",
+        "W 1 64 16",
+    ] {
+        assert!(accepted(&[line]), "{line}");
+    }
+    for line in [
+        "W 4 65 8",
+        "W 4 0 8",
+        "W 4 4 0",
+        "W 4 4 17",
+        "W 0 4 8",
+        "W 33 64 8",
+        "W 4 18446744073709551620 8",
+        "W 4 4 18446744073709551617",
+        "W 18446744073709551617 64 8",
+    ] {
+        assert_eq!(refused(&[line]), (2, 1), "{line}");
+    }
+    for workers in 1..=32 {
+        assert!(accepted(&[&format!("W {workers} {workers} 8")]));
+        for slots in 1..workers {
+            assert_eq!(refused(&[&format!("W {workers} {slots} 8")]), (9, 1));
+        }
+    }
+}
+
+/// Two faults in one W line: form, place, ranges, and then too few slots.
+#[test]
+fn order_in_a_workers_line() {
+    let first = |line: &str| refused(&[line]);
+    let again = |line: &str| refused(&["W 4", line]);
+    // 1 and 3, 1 and 2, 1 and 9.
+    assert_eq!(again("W 4 4"), (1, 2));
+    assert_eq!(again("W 4 4 -"), (1, 2));
+    assert_eq!(first("W 33 64 -"), (1, 1));
+    assert_eq!(first("W 4 65 08"), (1, 1));
+    assert_eq!(first("W 4 65"), (1, 1));
+    assert_eq!(first("W 4 3 -"), (1, 1));
+    assert_eq!(first("W 4 3"), (1, 1));
+    assert_eq!(first("W 4 3 8 1"), (1, 1));
+    // 3 and 2, 3 and 9.
+    assert_eq!(again("W 33 64 8"), (3, 2));
+    assert_eq!(again("W 4 65 8"), (3, 2));
+    assert_eq!(again("W 4 4 17"), (3, 2));
+    assert_eq!(again("W 4 3 8"), (3, 2));
+    // 2 and 9, by each of the three numbers.
+    assert_eq!(first("W 33 32 8"), (2, 1));
+    assert_eq!(first("W 1 0 8"), (2, 1));
+    assert_eq!(first("W 4 0 8"), (2, 1));
+    assert_eq!(first("W 4 3 0"), (2, 1));
+    assert_eq!(first("W 4 3 17"), (2, 1));
+    // 9, and a later line at fault too.
+    assert_eq!(refused(&["W 4 3 8", "X", "W 4"]), (9, 1));
+    assert_eq!(refused_text(b"W\t4\t3\t8\nR\t1"), (9, 1));
 }
 
 #[test]
@@ -222,13 +318,16 @@ fn numbers_of_forty_thousand_digits() {
     let zeros = "0".repeat(40_000);
     let one_and_zeros = format!("1{}", "0".repeat(39_999));
     for digits in [&nines, &one_and_zeros] {
-        assert_eq!(refused(&[&format!("W {digits}")]), (2, 1));
+        for line in ["W #", "W # 64 8", "W 4 # 8", "W 4 4 #", "W 4 3 #"] {
+            assert_eq!(refused(&[&line.replace('#', digits)]), (2, 1), "{line}");
+        }
         for line in [
             "T a #", "T a 0 r#", "P # 1", "P 0 #", "R #", "S # 1", "S 1 #",
         ] {
             assert_eq!(second_line(&line.replace('#', digits)), 2, "{line}");
         }
         assert_eq!(second_line(&format!("W {digits}")), 3);
+        assert_eq!(second_line(&format!("W 2 {digits} 8")), 3);
         assert_eq!(second_line(&format!("R {digits}x")), 1);
         assert_eq!(second_line(&format!("T {digits} 0")), 1);
         assert_eq!(second_line(&format!("T a 0 r1 r2 r3 r4 r{digits}")), 2);
@@ -272,4 +371,5 @@ fn printed_refusals() {
         answer_bytes(&lines(&["W 1", "T a 0 r5 r5"]), 0),
         b"X\t5\t2\n"
     );
+    assert_eq!(answer_bytes(&lines(&["W 4 3 8"]), 0), b"X\t9\t1\n");
 }

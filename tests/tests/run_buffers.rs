@@ -78,6 +78,11 @@ fn order_of_refusals() {
         refusal(5, 2)
     );
     assert_eq!(checked(b"W\t1\n", u64::MAX, STORE, 0), refusal(8, 0));
+    let few_slots = lines(&["W 4 3 8"]);
+    assert_eq!(checked(&few_slots, u64::MAX, STORE - 1, 0), refusal(7, 0));
+    assert_eq!(checked(&few_slots, u64::MAX, STORE, 0), refusal(9, 1));
+    let sized = lines(&["W 4 4 8"]);
+    assert_eq!(checked(&sized, u64::MAX, STORE, 0), refusal(8, 0));
 }
 
 #[test]

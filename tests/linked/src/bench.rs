@@ -9,7 +9,7 @@ pub const REPORT_SIZE: usize = 14_433;
 
 fn refusal(number: u64, line: u64) -> Refusal {
     match u8::try_from(number) {
-        Ok(number @ 1..=8) => Refusal { number, line },
+        Ok(number @ 1..=9) => Refusal { number, line },
         _ => panic!("{number} is no refusal"),
     }
 }

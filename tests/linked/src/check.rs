@@ -16,9 +16,9 @@ pub fn random_text(rng: &mut Rng) -> Vec<u8> {
 
 /// Holds the proved reader to the second implementation's on so many random
 /// texts, and counts the answers: accepted first, then by refusal number.
-pub fn compare(texts: u64, seed: u64) -> Result<[u64; 7], Vec<u8>> {
+pub fn compare(texts: u64, seed: u64) -> Result<[u64; 10], Vec<u8>> {
     let mut rng = Rng::new(seed);
-    let mut counts = [0; 7];
+    let mut counts = [0; 10];
     for _ in 0..texts {
         let text = random_text(&mut rng);
         let expected = second::plan::check(&text).map(|_| ());

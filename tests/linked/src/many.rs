@@ -4,7 +4,7 @@
 use crate::bench::{run, REPORT_SIZE};
 use crate::fence::Fenced;
 use second::plan::Refusal;
-use second::random::{damaged, plan, Rng, Shape};
+use second::random::{damaged, first_form, plan, Rng, Shape};
 use second::run::{run as second_run, Reported, STORE_SIZE};
 
 /// Where no limit is drawn a run still ends here at the latest.
@@ -124,6 +124,18 @@ fn random_output_size(rng: &mut Rng, text: &[u8], limit: u64) -> usize {
 
 pub fn random_call(rng: &mut Rng) -> Call {
     let text = random_text(rng);
+    call_of(rng, text)
+}
+
+/// A call with a text that means the same, or is refused alike, where the second
+/// form of a plan is unknown.
+pub fn first_form_call(rng: &mut Rng) -> Call {
+    let text = first_form(rng, random_text);
+    call_of(rng, text)
+}
+
+/// A call with this text, and all else drawn.
+fn call_of(rng: &mut Rng, text: Vec<u8>) -> Call {
     let limit = random_limit(rng, &text);
     let store = used_store(random_store_size(rng), rng.word());
     let output = used_output(random_output_size(rng, &text, limit), rng.byte());
@@ -137,9 +149,9 @@ pub fn random_call(rng: &mut Rng) -> Call {
 
 /// Compares so many random calls, and counts the answers: reports first, then by
 /// refusal number. Also all picks taken.
-pub fn compare_many(calls: u64, seed: u64) -> Result<([u64; 9], u64), (Box<Call>, String)> {
+pub fn compare_many(calls: u64, seed: u64) -> Result<([u64; 10], u64), (Box<Call>, String)> {
     let mut rng = Rng::new(seed);
-    let (mut counts, mut picks) = ([0; 9], 0);
+    let (mut counts, mut picks) = ([0; 10], 0);
     for _ in 0..calls {
         let call = random_call(&mut rng);
         match compare(&call) {

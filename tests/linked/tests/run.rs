@@ -52,6 +52,29 @@ fn refused(text: &[u8]) -> (u8, u64) {
     (answer.number, answer.line)
 }
 
+/// Thirteen tasks for three workers, after this W line.
+fn busy(first: &str) -> Vec<u8> {
+    lines(&[
+        first,
+        "T a 2 w5",
+        "T b 1 r5",
+        "T c 0 r5 w7",
+        "T d 3 w5 r7",
+        "T e 0",
+        "T f 0",
+        "T g 0",
+        "T h 0",
+        "T i 0",
+        "T j 0",
+        "T k 0",
+        "T l 0",
+        "T m 0",
+        "P 0 40",
+        "S 4 300",
+        "R 100",
+    ])
+}
+
 mod examples {
     use super::*;
 
@@ -62,6 +85,10 @@ mod examples {
         assert_eq!(refused(b"W\t33\n"), (2, 1));
         assert_eq!(refused(&lines(&["W 1", "T a 0 r5 r5"])), (5, 2));
         assert_eq!(refused(&lines(&["W 1", "T a 0 r1 r2 r3 r4 r1"])), (4, 2));
+        assert_eq!(refused(&lines(&["W 4 3 8"])), (9, 1));
+        assert_eq!(refused(&lines(&["W 4 3 17"])), (2, 1));
+        assert_eq!(refused(&lines(&["W 4 4"])), (1, 1));
+        assert_eq!(refused(&lines(&["W 4", "W 4 4 8"])), (3, 2));
     }
 
     #[test]
@@ -92,6 +119,73 @@ mod examples {
     fn chain() {
         let report = shown(&["W 1", "T a 0 w5", "T b 0 r5", "R 60"]);
         assert!(report.starts_with("E finished "), "{report}");
+    }
+}
+
+/// Plans that name their ring slots and queue capacity.
+mod second_form {
+    use super::*;
+
+    #[test]
+    fn start_values() {
+        for slots in 1..=64 {
+            let report = format!("E finished 0\nL {slots} {} -\n", slots + 1);
+            assert_eq!(shown(&[&format!("W 1 {slots} 1")]), report);
+        }
+    }
+
+    #[test]
+    fn listing_in_two_slots() {
+        let plan = [&["W 2 2 1"], &LISTING[1..]].concat();
+        let report = "E finished 14\nT 0 a over 0 13 14 1\nL 4 4 1\n";
+        assert_eq!(shown(&plan), report);
+    }
+
+    /// The registration of the lap before, 2 + 1, is below the tail, 4.
+    #[test]
+    fn registration_of_the_lap_before() {
+        let plan = ["W 2 2 8", "T a 0", "P 1 7", "P 0 3", "P 0 3", "P 0 3"];
+        let report = "E open 16\nT 0 a run 0 16 - 0\nL 4 4 0\n";
+        assert_eq!(shown(&plan), report);
+    }
+
+    /// 64 and 8 spelled out: the same report, after every number of picks.
+    #[test]
+    fn spelled_out() {
+        let (first, second) = (busy("W 3"), busy("W 3 64 8"));
+        let report = |text: &[u8], limit: u64| {
+            let mut output = vec![b'#'; 1_000];
+            let answer = run(text, limit, &mut vec![0; STORE], &mut output);
+            (answer.expect("a report"), output)
+        };
+        for limit in (0..=500).chain([u64::MAX]) {
+            assert_eq!(report(&first, limit), report(&second, limit));
+        }
+    }
+
+    /// Every ring that three workers fit in, and every capacity.
+    #[test]
+    fn every_size() {
+        for slots in 3..=64 {
+            for capacity in 1..=16 {
+                let text = busy(&format!("W 3 {slots} {capacity}"));
+                compared(&text, u64::MAX, STORE, 1_000, slots).expect("a report");
+            }
+        }
+    }
+
+    /// As many slots as workers, and one more, for every number of workers: many laps.
+    #[test]
+    fn tight_rings() {
+        for workers in 1..=32 {
+            for (slots, capacity) in [(workers, 1), (workers, 16), (workers + 1, 2)] {
+                let mut text = format!("W\t{workers}\t{slots}\t{capacity}\n");
+                text.push_str(&"T\ta\t2\tw5\tr7\n".repeat(96));
+                text.push_str("S\t5\t4000\nR\t4000\n");
+                let text = text.as_bytes();
+                compared(text, u64::MAX, STORE, REPORT_SIZE, 11).expect("a report");
+            }
+        }
     }
 }
 
@@ -146,29 +240,13 @@ mod buffers {
 
     #[test]
     fn every_limit_of_a_busy_plan() {
-        let text = lines(&[
-            "W 3",
-            "T a 2 w5",
-            "T b 1 r5",
-            "T c 0 r5 w7",
-            "T d 3 w5 r7",
-            "T e 0",
-            "T f 0",
-            "T g 0",
-            "T h 0",
-            "T i 0",
-            "T j 0",
-            "T k 0",
-            "T l 0",
-            "T m 0",
-            "P 0 40",
-            "S 4 300",
-            "R 100",
-        ]);
-        let all = compared(&text, u64::MAX, STORE, 1_000, 0).expect("a report");
-        for limit in 0..=all.picks + 1 {
-            let answer = compared(&text, limit, STORE, 1_000, limit).expect("a report");
-            assert_eq!(answer.picks, limit.min(all.picks));
+        for first in ["W 3", "W 3 3 1", "W 3 4 16", "W 3 5 2"] {
+            let text = busy(first);
+            let all = compared(&text, u64::MAX, STORE, 1_000, 0).expect("a report");
+            for limit in 0..=all.picks + 1 {
+                let answer = compared(&text, limit, STORE, 1_000, limit).expect("a report");
+                assert_eq!(answer.picks, limit.min(all.picks));
+            }
         }
     }
 
@@ -186,6 +264,9 @@ mod buffers {
         assert_eq!(number(b"", STORE, 0), (3, 1));
         assert_eq!(number(b"W\t1\n", STORE, 0), (8, 0));
         assert_eq!(number(b"W\t1\n", STORE, 100), (0, 0));
+        assert_eq!(number(b"W\t2\t1\t1\n", STORE - 1, 0), (7, 0));
+        assert_eq!(number(b"W\t2\t1\t1\n", STORE, 0), (9, 1));
+        assert_eq!(number(b"W\t2\t2\t1\n", STORE, 0), (8, 0));
     }
 
     /// A store that a run left serves the next one.
@@ -214,6 +295,35 @@ mod buffers {
 fn report_size_of_the_header() {
     let header = include_str!("../../../include/salfunye.h");
     assert!(header.contains(&format!("#define SALFUNYE_REPORT_SIZE {REPORT_SIZE}\n")));
+}
+
+/// The header names each refusal by the paper's number, and no other.
+#[test]
+fn refusals_of_the_header() {
+    let header = include_str!("../../../include/salfunye.h");
+    let (_, names) = header.split_once("enum salfunye_refusal {").expect("it");
+    let (names, _) = names.split_once('}').expect("its end");
+    let numbers: Vec<(&str, &str)> = names
+        .lines()
+        .filter_map(|line| line.trim().strip_prefix("SALFUNYE_")?.split_once(" = "))
+        .map(|(name, rest)| {
+            let end = rest.find([',', ' ', '/']).unwrap_or(rest.len());
+            (name, &rest[..end])
+        })
+        .collect();
+    let expected = [
+        ("ACCEPTED", "0"),
+        ("MALFORMED", "1"),
+        ("OUT_OF_RANGE", "2"),
+        ("MISPLACED", "3"),
+        ("TOO_MANY", "4"),
+        ("ADDRESS_TWICE", "5"),
+        ("TEXT_TOO_LONG", "6"),
+        ("STORE_TOO_SHORT", "7"),
+        ("OUTPUT_TOO_SHORT", "8"),
+        ("TOO_FEW_SLOTS", "9"),
+    ];
+    assert_eq!(numbers, expected);
 }
 
 #[test]

@@ -1,7 +1,7 @@
 //! compare COUNT SEED: has the proof checker compute the bench's definitions on COUNT random plans
 //! and holds each whole answer (report or refusal, picks, store, output) to this implementation's.
 
-use second::machine::{Machine, Place, CAPACITY, SLOTS};
+use second::machine::{Machine, Place};
 use second::order::Picks;
 use second::plan::check;
 use second::random::Rng;
@@ -10,7 +10,7 @@ use std::fmt::Write as _;
 use std::path::{Path, PathBuf};
 use std::process::{exit, Command};
 
-const REFUSALS: [&str; 8] = [
+const REFUSALS: [&str; 9] = [
     "Malformed",
     "OutOfRange",
     "Misplaced",
@@ -19,6 +19,7 @@ const REFUSALS: [&str; 8] = [
     "TextTooLong",
     "StoreTooShort",
     "OutputTooShort",
+    "TooFewSlots",
 ];
 const STORE: usize = 8192;
 const IN_STORE: u64 = 7;
@@ -37,7 +38,7 @@ fn held(text: &[u8]) -> Vec<u64> {
     let Ok(plan) = check(text) else {
         return Vec::new();
     };
-    let mut machine = Machine::new(&plan, SLOTS, CAPACITY);
+    let mut machine = Machine::new(&plan);
     let mut picks = Vec::new();
     for worker in Picks::new(&plan) {
         if machine.finished() {

@@ -2,17 +2,23 @@
 //! and in the size. Most are refused; a harmless change is kept as it is.
 
 use super::draft::{access, is_task, join, line, order_line, Field, Line, OrderSize};
+use super::form::{form, second_form, workers_line};
 use super::{fill, medium, small, Rng};
 use crate::plan::{TASK_LIMIT, TEXT_LIMIT};
 
 /// A damaged text of any size.
 pub fn damaged(rng: &mut Rng) -> Vec<u8> {
-    match rng.below(24) {
+    match rng.below(27) {
         0 => noise(rng),
         1 => Vec::new(),
         2..=4 => sized(rng),
         5 => long_field(rng),
         6 | 7 => bytes_only(rng),
+        8..=10 => {
+            let mut lines = small(rng);
+            workers_faults(rng, &mut lines);
+            join(&lines)
+        }
         _ => {
             let mut lines = if rng.one_in(4) {
                 medium(rng)
@@ -48,16 +54,55 @@ pub fn faults(rng: &mut Rng, lines: &mut Vec<Line>, large: bool) {
 fn fault(rng: &mut Rng, lines: &mut Vec<Line>, at: usize, large: bool) {
     // An earlier fault may have taken a line away.
     let at = at.min(lines.len() - 1);
-    match rng.below(12) {
+    match rng.below(16) {
         0 | 1 => field_form(rng, &mut lines[at]),
-        2 => line_form(rng, lines, at),
+        2 if rng.one_in(5) => lines.insert(at, vec![Vec::new()]),
+        2 => line_form(rng, &mut lines[at]),
         3 | 4 => range(rng, lines, at),
         5 | 6 => place(rng, lines, at),
         7 if large => too_many_tasks(rng, lines),
-        7 | 8 => too_many_accesses(rng, lines, at),
-        9 | 10 => address_twice(rng, lines, at),
+        7..=9 => too_many_accesses(rng, lines, at),
+        10 | 11 => address_twice(rng, lines, at),
+        12..=14 => workers_faults(rng, lines),
         _ => limit_reached(rng, lines, at),
     }
+}
+
+/// Makes the first line a W line of the second form, mostly, and spoils it, at
+/// times in two ways.
+fn workers_faults(rng: &mut Rng, lines: &mut [Line]) {
+    let workers = workers_of(lines).clamp(1, 32);
+    if !rng.one_in(6) {
+        lines[0] = workers_line(workers, second_form(rng, workers));
+    }
+    for _ in 0..rng.choose(&[1, 1, 2]) {
+        match rng.below(10) {
+            0..=5 if lines[0].len() == 4 => {
+                let slots = workers - rng.between(1, workers);
+                let slots = rng.choose(&[slots, workers - 1, workers - 1]);
+                lines[0][2] = slots.to_string().into_bytes();
+            }
+            6 => line_form(rng, &mut lines[0]),
+            7 => field_form(rng, &mut lines[0]),
+            8 => many_digits(rng, &mut lines[0]),
+            _ => range(rng, lines, 0),
+        }
+    }
+}
+
+/// Raises a number by a power of two, so that it is the same in fewer bits, or
+/// makes it one of many digits.
+fn many_digits(rng: &mut Rng, line: &mut Line) {
+    let at = rng.index(line.len());
+    let field = std::str::from_utf8(&line[at]).unwrap_or("");
+    let raised = match field.parse::<u128>() {
+        Ok(number) if rng.one_in(2) => number.checked_add(1 << rng.choose(&[8, 16, 32, 64])),
+        _ => None,
+    };
+    line[at] = match raised {
+        Some(number) => number.to_string().into_bytes(),
+        None => vec![rng.choose(b"19"); rng.between(19, 40) as usize],
+    };
 }
 
 /// Spoils the form of one field.
@@ -98,19 +143,18 @@ fn insert(rng: &mut Rng, field: &mut Field, byte: u8) {
     field.insert(at, byte);
 }
 
-/// Too few or too many fields, or no field at all.
-fn line_form(rng: &mut Rng, lines: &mut Vec<Line>, at: usize) {
-    match rng.below(5) {
-        0 => lines[at].push(b"1".to_vec()),
-        1 => lines[at].push(Vec::new()),
-        2 => lines[at].truncate(1),
-        3 => {
-            lines[at].pop();
+/// Too few or too many fields.
+fn line_form(rng: &mut Rng, line: &mut Line) {
+    match rng.below(4) {
+        0 => line.push(b"1".to_vec()),
+        1 => line.push(Vec::new()),
+        2 => line.truncate(1),
+        _ => {
+            line.pop();
         }
-        _ => lines.insert(at, vec![Vec::new()]),
     }
-    if lines[at].is_empty() {
-        lines[at].push(Vec::new());
+    if line.is_empty() {
+        line.push(Vec::new());
     }
 }
 
@@ -122,6 +166,10 @@ fn range(rng: &mut Rng, lines: &mut [Line], at: usize) {
     let length = line.len();
     let (field, value) = match (line[0].as_slice(), length) {
         (b"W", 2) => (1, rng.choose(&["0", "33"]).to_string()),
+        (b"W", 4) => {
+            let (field, above) = rng.choose(&[(1, "33"), (2, "65"), (3, "17")]);
+            (field, rng.choose(&["0", above]).to_string())
+        }
         (b"T", 3) => (2, "1001".to_string()),
         (b"T", 4..) if rng.one_in(2) => {
             let kind = rng.choose(&["r", "w"]);
@@ -143,6 +191,10 @@ fn limit_reached(rng: &mut Rng, lines: &mut [Line], at: usize) {
     let workers = workers_of(lines);
     let line = &mut lines[at];
     match (line[0].as_slice(), line.len()) {
+        (b"W", 4) => {
+            line[2] = rng.choose(&[workers, 64]).to_string().into_bytes();
+            line[3] = rng.choose(&[1, 16]).to_string().into_bytes();
+        }
         (b"T", 3..) => line[2] = rng.choose(&[&b"0"[..], b"1000"]).to_vec(),
         (b"P", 3) => line[1] = (workers.max(1) - 1).to_string().into_bytes(),
         (b"S", 3) => line[1] = u64::MAX.to_string().into_bytes(),
@@ -166,7 +218,14 @@ fn place(rng: &mut Rng, lines: &mut Vec<Line>, at: usize) {
                 lines.push(line(&[&"R", &1]));
             }
         }
-        1 => lines.insert(at + 1, line(&[&"W", &rng.choose(&[1, 2, 32, 33, 99])])),
+        1 => {
+            let workers = rng.choose(&[1, 2, 32, 33, 99]);
+            let form = form(rng, workers.min(32));
+            lines.insert(at + 1, workers_line(workers, form));
+            if rng.one_in(3) {
+                range(rng, lines, at + 1);
+            }
+        }
         2 => lines.push(line(&[&"T", &"late", &rng.choose(&[0, 1_000, 1_001])])),
         3 => lines.insert(at, line(&[&"R", &rng.choose(&[1, 2])])),
         4 => {

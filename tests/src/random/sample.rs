@@ -2,6 +2,7 @@
 
 use super::damage::{damage_bytes, faults};
 use super::draft::{join, line, seed, Line, Pattern, Tasks};
+use super::form::{form, workers_line};
 use super::Rng;
 use crate::plan::check;
 
@@ -9,20 +10,20 @@ use crate::plan::check;
 const BYTES: usize = 400;
 const PICKS: u64 = 300;
 const WORKERS: u64 = 6;
-const TASKS: usize = 14;
+const TASKS: usize = 20;
 const COST: u64 = 3;
 
-/// The sample of a seed; about one in six is damaged.
+/// The sample of a seed; about one in five is damaged.
 pub fn sample(seed: u64) -> Vec<u8> {
     let rng = &mut Rng::new(seed);
-    let spoil = rng.one_in(6);
+    let spoil = rng.one_in(5);
     loop {
         let mut lines = sound(rng);
-        if spoil && !rng.one_in(4) {
+        if spoil && !rng.one_in(8) {
             faults(rng, &mut lines, false);
         }
         let mut text = join(&lines);
-        if spoil && rng.one_in(4) {
+        if spoil && rng.one_in(8) {
             damage_bytes(rng, &mut text);
         }
         // Few harmless changes are wanted.
@@ -49,12 +50,21 @@ fn quick(text: &[u8]) -> bool {
 }
 
 fn sound(rng: &mut Rng) -> Vec<Line> {
-    let (pattern, count, workers) = match rng.below(8) {
-        0 | 1 => (Pattern::Burst, rng.between(9, 14), rng.between(2, 3)),
-        2 => (Pattern::Fan, rng.between(2, 8), rng.between(1, 4)),
-        3 => (Pattern::Chain, rng.between(1, 5), rng.between(1, 3)),
-        4 => (Pattern::Burst, rng.between(0, 8), rng.between(1, 6)),
-        _ => (Pattern::Mixed, rng.between(0, 8), rng.between(1, 6)),
+    let kind = rng.below(9);
+    let workers = match kind {
+        0..=2 => rng.between(2, 3),
+        3 => rng.between(1, 4),
+        4 => rng.between(1, 3),
+        _ => rng.between(1, 6),
+    };
+    let form = form(rng, workers);
+    let capacity = form.capacity();
+    let (pattern, count) = match kind {
+        0..=2 => (Pattern::Burst, rng.between(capacity + 1, capacity + 4)),
+        3 => (Pattern::Fan, rng.between(2, 8)),
+        4 => (Pattern::Chain, rng.between(1, 5)),
+        5 => (Pattern::Burst, rng.between(0, 8)),
+        _ => (Pattern::Mixed, rng.between(0, 8)),
     };
     let pool: &[u64] = if rng.one_in(2) {
         &[5, 7]
@@ -68,15 +78,15 @@ fn sound(rng: &mut Rng) -> Vec<Line> {
         max_cost: rng.between(0, COST),
         max_label: 3,
     };
-    let mut lines = vec![line(&[&"W", &workers])];
+    let mut lines = vec![workers_line(workers, form)];
     lines.extend(tasks.lines(rng));
-    lines.extend(orders(rng, workers, count > 8));
+    lines.extend(orders(rng, workers, (kind < 3).then_some(capacity)));
     lines
 }
 
-/// Order lines within the budget of picks. With many tasks worker 0 comes first,
-/// so that its queue gets full.
-fn orders(rng: &mut Rng, workers: u64, many_tasks: bool) -> Vec<Line> {
+/// Order lines within the budget of picks. Where a queue of some capacity is to be
+/// full worker 0 comes first.
+fn orders(rng: &mut Rng, workers: u64, full: Option<u64>) -> Vec<Line> {
     let mut left = if rng.one_in(3) {
         rng.between(0, 80)
     } else {
@@ -89,12 +99,12 @@ fn orders(rng: &mut Rng, workers: u64, many_tasks: bool) -> Vec<Line> {
             lines.push(line);
         }
     };
-    if many_tasks {
+    if let Some(capacity) = full {
         if rng.one_in(2) {
             let times = rng.between(1, 3);
             spend(&mut lines, line(&[&"P", &(workers - 1), &times]), times);
         }
-        let times = rng.between(27, 45);
+        let times = 3 * capacity + rng.between(3, 21);
         spend(&mut lines, line(&[&"P", &0, &times]), times);
     }
     for _ in 0..rng.below(6) {

@@ -16,7 +16,7 @@ fn main() {
     match linked::check::compare(count, seed) {
         Ok(counts) => {
             println!("{count} texts from seed {seed}, no difference");
-            println!("accepted and refused with 1 to 6: {counts:?}");
+            println!("accepted and refused with 1 to 9: {counts:?}");
         }
         Err(text) => {
             eprintln!("the two readers differ on this text:");

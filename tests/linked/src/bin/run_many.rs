@@ -16,7 +16,7 @@ fn main() {
     match linked::many::compare_many(count, seed) {
         Ok((counts, picks)) => {
             println!("{count} runs from seed {seed}, {picks} picks, no difference");
-            println!("reports and refusals 1 to 8: {counts:?}");
+            println!("reports and refusals 1 to 9: {counts:?}");
         }
         Err((call, what)) => {
             eprintln!(

@@ -1,7 +1,8 @@
 //! run_speed [PART]: nanoseconds per pick of the proved run beside the second
 //! implementation's, on the same plans, in one run. A time holds the whole call:
 //! reading, clearing the store and the report too. Only lines whose name has PART
-//! in it are measured, if one is given.
+//! in it are measured, if one is given. A plan of the second form that a build refuses
+//! with 1, as one that is older than that form does, has a line that says so.
 //!
 //! The same machine code takes up to twice as long where stack and store happen to
 //! lie badly to each other, so each repetition has them elsewhere; and up to a fifth
@@ -9,7 +10,9 @@
 //! in four links each: PAD bytes, given when it is built, stand before all code.
 
 use second::plan::Refusal;
+use second::random::is_first_form;
 use second::run::{Reported, STORE_SIZE};
+use std::fmt::Display;
 use std::hint::black_box;
 use std::time::Instant;
 
@@ -42,9 +45,10 @@ struct Case {
     store: usize,
 }
 
-/// A plan of these tasks, with each order line as often as it says.
-fn plan(workers: u64, tasks: &[String], orders: &[(String, usize)]) -> Vec<u8> {
-    let mut text = format!("W\t{workers}\n");
+/// A plan of these tasks, with each order line as often as it says. `first` is what
+/// the W line says.
+fn plan(first: impl Display, tasks: &[String], orders: &[(String, usize)]) -> Vec<u8> {
+    let mut text = format!("W\t{first}\n");
     for task in tasks {
         text.push_str(task);
     }
@@ -159,6 +163,41 @@ fn cases() -> Vec<Case> {
             store,
         );
     }
+    cases.extend(second_form_cases());
+    cases
+}
+
+/// Rings that are no power of two, with as few slots as that allows, and queues of both
+/// ends of the range.
+fn second_form_cases() -> Vec<Case> {
+    let mut cases = Vec::new();
+    let mut add = |name: &str, first: &str, tasks: &[String], orders: &[(String, usize)]| {
+        cases.push(Case {
+            name: format!("{name}, W {first}"),
+            text: plan(first.replace(' ', "\t"), tasks, orders),
+            store: STORE_SIZE,
+        });
+    };
+    for first in ["1 3 8", "4 5 8", "32 33 8"] {
+        add("rounds", first, &chain(128, 1_000), &rounds());
+        add(
+            "128 tasks, cost 0, rounds",
+            first,
+            &tangle(128, 0),
+            &rounds(),
+        );
+    }
+    for first in ["4 5 8", "32 33 8"] {
+        add("worker 1 alone", first, &chain(128, 0), &alone(1, 250));
+    }
+    for first in ["4 5 1", "4 5 16", "32 33 1", "32 33 16"] {
+        add(
+            "128 tasks, cost 0, rounds",
+            first,
+            &tangle(128, 0),
+            &rounds(),
+        );
+    }
     cases
 }
 
@@ -195,6 +234,13 @@ fn measure(case: &Case) {
     let mut output = vec![0; 16_384];
     let proved: Run = linked::bench::run;
     let second: Run = second::run::run;
+    if !is_first_form(&case.text) {
+        let answer = proved(&case.text, 0, &mut room, &mut output);
+        if matches!(answer, Err(Refusal { number: 1, .. })) {
+            println!("{:46} refused", case.name);
+            return;
+        }
+    }
     let (_, picks) = timed(proved, case, 1, &mut room, &mut output);
     let calls = PICKS.div_ceil(picks);
     let scale = 1e9 / (picks * calls) as f64;
