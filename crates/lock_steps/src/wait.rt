@@ -19,7 +19,6 @@ use steps::Counts;
 use steps::layout::DRAINING_TO_ADD;
 use steps::layout::DRAINING_TO_SERVE;
 use steps::layout::IDLE;
-use steps::layout::LOOKING;
 use steps::layout::NUMBER;
 use steps::layout::REGISTERING;
 use steps::layout::SLOT;

@@ -152,9 +152,9 @@ pub record HoldsDevice (c : Setup) (n : Counts) (device : List ℕ) (stations : 
   pub givers : Given (length (c .tasks)) device giver
 
 -- A state lies in this memory and these shares. What neither this nor `HoldsTasks` speaks of is left to the program: in the device's part
--- the numbers without a name, the slots behind the queue, and the number of a place that speaks of none; the slots of the ready list
--- without a task; the givers past the last task; the shares past the last worker's. They may be any numbers, before and after: what is
--- held after a step does not depend on them.
+-- the numbers without a name, the slots behind the queue, the number of a place that speaks of none, and the noted slot where it doesn't
+-- look; the slots of the ready list without a task; the givers past the last task; the shares past the last worker's. They may be any
+-- numbers, before and after: what is held after a step does not depend on them.
 pub record Holds (c : Setup) (m : Memory) (shares : ℕ → List ℕ) (s : State) : Type 0 where
   pub lock :
       lockOf (c .slots) (m .counts .ends .head .0) (m .counts .ends .tail .0) (m .wait) (m .registrations) (m .tickets) (m .cells) ≡ s .lock
