@@ -1,8 +1,9 @@
 /*
- * The bench and its lock for C callers.
+ * The bench, its converters and its lock for C callers.
  *
- *   salfunye_check, salfunye_run      libbench_c.a   (rt staticlib bench_c)
- *   salfunye_lock_...                 liblock_c.a    (rt staticlib lock_c)
+ *   salfunye_check, salfunye_run              libbench_c.a     (rt staticlib bench_c)
+ *   salfunye_to_second, salfunye_to_first     libconvert_c.a   (rt staticlib convert_c)
+ *   salfunye_lock_...                         liblock_c.a      (rt staticlib lock_c)
  *
  * Every function takes any values. What a pointer and its length name must be
  * there for the call, and no two arguments of a call may overlap; a pointer
@@ -24,16 +25,16 @@ extern "C" {
 
 /* ---- The bench ---- */
 
-/* The longest text that is read, in bytes, and the numbers that a store must have. */
+/* The longest text that is read or written, in bytes, and the numbers that a store must have. */
 #define SALFUNYE_TEXT_SIZE 65536
 #define SALFUNYE_STORE_SIZE 8192
 
 /* No report is longer, in bytes. */
 #define SALFUNYE_REPORT_SIZE 14433
 
-/* Refusals. 1 to 5 and 9 are the plan's, with its line from 1; of two faulty
+/* Refusals. 1 to 5, 9 and 10 are the plan's, with its line from 1; of two faulty
  * lines the first decides, and within a line the order is 1, 3, 2, 4, 5, in a W
- * line 1, 3, 2, 9. The others are the caller's, with line 0. */
+ * line 1, 3, 2, 9. 10 follows them all. The others are the caller's, with line 0. */
 enum salfunye_refusal {
     SALFUNYE_ACCEPTED = 0,
     SALFUNYE_MALFORMED = 1,        /* no line feed, unknown first field, wrong number of fields, a field not of its form */
@@ -41,10 +42,11 @@ enum salfunye_refusal {
     SALFUNYE_MISPLACED = 3,        /* W not first or again, T after an order line; an empty text */
     SALFUNYE_TOO_MANY = 4,         /* a 129th task or a fifth access */
     SALFUNYE_ADDRESS_TWICE = 5,    /* an address twice in one task */
-    SALFUNYE_TEXT_TOO_LONG = 6,    /* more than SALFUNYE_TEXT_SIZE bytes; tested first */
+    SALFUNYE_TEXT_TOO_LONG = 6,    /* more than SALFUNYE_TEXT_SIZE bytes: a text, tested first; a result, just before 8 */
     SALFUNYE_STORE_TOO_SHORT = 7,  /* fewer than SALFUNYE_STORE_SIZE numbers; tested second */
-    SALFUNYE_OUTPUT_TOO_SHORT = 8, /* shorter than the report; tested last */
-    SALFUNYE_TOO_FEW_SLOTS = 9     /* a W line that names fewer slots than workers */
+    SALFUNYE_OUTPUT_TOO_SHORT = 8, /* shorter than the report or the result; tested last */
+    SALFUNYE_TOO_FEW_SLOTS = 9,    /* a W line that names fewer slots than workers */
+    SALFUNYE_OTHER_SIZES = 10      /* to the first form: a W line that names other sizes than 64 slots and a capacity of 8; line 1 */
 };
 
 struct salfunye_checked {
@@ -78,6 +80,37 @@ struct salfunye_checked salfunye_check(const uint8_t *text, size_t text_length);
 struct salfunye_ran salfunye_run(const uint8_t *text, size_t text_length, uint64_t limit,
                                  uint64_t *store, size_t store_length,
                                  uint8_t *output, size_t output_length);
+
+/* ---- The converters ----
+ *
+ * A plan of the first form, `W`, workers, means 64 slots and a queue capacity of
+ * 8; the second form names them: `W`, workers, slots, capacity. A converter
+ * writes a plan in the other form: the W line anew, all else byte for byte. A
+ * plan that is in the wanted form already is written as it is. A moved plan gives
+ * the same report, and moved back it is the old bytes.
+ */
+
+struct salfunye_written {
+    uint64_t number; /* of enum salfunye_refusal; 0: there is a result */
+    uint64_t line;   /* as above */
+    uint64_t length; /* bytes of the result; 0 in a refusal */
+};
+
+/*
+ * Writes a plan text in the second form, a plan of the first with 64 and 8
+ * spelled out, into the first bytes of the output: 0, what salfunye_check gives,
+ * 6 by the result, then 8. SALFUNYE_TEXT_SIZE is enough output for any plan. A
+ * refusal writes no byte of it; past the result it is as it was.
+ */
+struct salfunye_written salfunye_to_second(const uint8_t *text, size_t text_length,
+                                           uint8_t *output, size_t output_length);
+
+/*
+ * Writes a plan text in the first form: 0, what salfunye_check gives, 10, then 8;
+ * no result is longer than its text. The output as above.
+ */
+struct salfunye_written salfunye_to_first(const uint8_t *text, size_t text_length,
+                                          uint8_t *output, size_t output_length);
 
 /* ---- The lock ----
  *

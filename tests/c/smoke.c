@@ -1,6 +1,7 @@
 /*
- * A C caller of the bench and of the lock, by the header alone: the paper's
- * listing, refusals, what is left in store and output, and some turns of the lock.
+ * A C caller of the bench, the converters and the lock, by the header alone: the
+ * paper's listing, refusals, what is left in store and output, the listing moved
+ * to the other form and back, and some turns of the lock.
  * Buffers are taken from the heap in their exact sizes, so that a memory checker
  * sees a step past their ends.
  */
@@ -26,6 +27,8 @@ static const char report[] = "E\tfinished\t14\nT\t0\ta\tover\t0\t13\t14\t1\nL\t6
 /* the listing in a ring of two slots, with queues of one place; and a slot too few */
 static const char two_slots[] = "W\t2\t2\t1\nT\ta\t0\nP\t1\t3\nP\t0\t5\nP\t1\t4\nP\t0\t2\n";
 static const char two_slots_report[] = "E\tfinished\t14\nT\t0\ta\tover\t0\t13\t14\t1\nL\t4\t4\t1\n";
+/* the listing with the sizes of the first form spelled out */
+static const char moved[] = "W\t2\t64\t8\nT\ta\t0\nP\t1\t3\nP\t0\t5\nP\t1\t4\nP\t0\t2\n";
 static const char few_slots[] = "W\t2\t1\t8\n";
 
 static void *taken(size_t size) {
@@ -100,6 +103,89 @@ static void bench(void) {
     free(large);
 }
 
+typedef struct salfunye_written converter(const uint8_t *, size_t, uint8_t *, size_t);
+
+/* Converts a text into a used output of this length, and looks at all that is left. */
+static struct salfunye_written convert(converter *to, const char *text, size_t size, size_t output_length, const char *expected) {
+    uint8_t *plan = taken(size);
+    uint8_t *output = taken(output_length);
+    memcpy(plan, text, size);
+    memset(output, '#', output_length);
+
+    struct salfunye_written written = to(plan, size, output, output_length);
+
+    EXPECT(memcmp(plan, text, size) == 0);
+    size_t length = written.number == 0 ? strlen(expected) : 0;
+    EXPECT(written.length == length);
+    EXPECT(length <= output_length && memcmp(output, expected, length) == 0);
+    for (size_t i = length; i < output_length; i++) EXPECT(output[i] == '#');
+    free(output);
+    free(plan);
+    return written;
+}
+
+/* A plan of the first form of so many bytes, at least 4; the room has one byte more, for an end as strings have it. */
+static char *sized(size_t size) {
+    char *text = taken(size + 1);
+    memcpy(text, "W\t1\n", 4);
+    size_t filled = 4;
+    for (; filled + 8 <= size; filled += 4) memcpy(text + filled, "R\t1\n", 4);
+    if (filled < size) memcpy(text + filled, "R\t1000", size - filled);
+    text[size - 1] = '\n';
+    text[size] = '\0';
+    return text;
+}
+
+static void converters(void) {
+    size_t first = strlen(listing), second = strlen(moved);
+    for (size_t more = 0; more < 3; more++) {
+        struct salfunye_written written = convert(salfunye_to_second, listing, first, second + more, moved);
+        EXPECT(written.number == SALFUNYE_ACCEPTED && written.line == 0);
+        written = convert(salfunye_to_first, moved, second, first + more, listing);
+        EXPECT(written.number == SALFUNYE_ACCEPTED && written.line == 0);
+        written = convert(salfunye_to_second, moved, second, second + more, moved);
+        EXPECT(written.number == SALFUNYE_ACCEPTED && written.line == 0);
+        written = convert(salfunye_to_first, listing, first, first + more, listing);
+        EXPECT(written.number == SALFUNYE_ACCEPTED && written.line == 0);
+    }
+    for (size_t less = 1; less <= first; less += first - 1) {
+        struct salfunye_written written = convert(salfunye_to_second, listing, first, second - less, "");
+        EXPECT(written.number == SALFUNYE_OUTPUT_TOO_SHORT && written.line == 0);
+        written = convert(salfunye_to_first, moved, second, first - less, "");
+        EXPECT(written.number == SALFUNYE_OUTPUT_TOO_SHORT && written.line == 0);
+    }
+
+    /* 10 comes before a short output and behind what the reader refuses */
+    struct salfunye_written written = convert(salfunye_to_first, two_slots, strlen(two_slots), 0, "");
+    EXPECT(written.number == SALFUNYE_OTHER_SIZES && written.line == 1);
+    EXPECT(SALFUNYE_OTHER_SIZES == 10);
+    written = convert(salfunye_to_first, "W\t2\t64\t9\n", 9, 100, "");
+    EXPECT(written.number == SALFUNYE_OTHER_SIZES && written.line == 1);
+    written = convert(salfunye_to_first, "W\t2\t63\t8\n", 9, 100, "");
+    EXPECT(written.number == SALFUNYE_OTHER_SIZES && written.line == 1);
+    written = convert(salfunye_to_first, two_slots, strlen(two_slots) - 1, 100, "");
+    EXPECT(written.number == SALFUNYE_MALFORMED && written.line == 6);
+    written = convert(salfunye_to_second, two_slots, strlen(two_slots), 100, two_slots);
+    EXPECT(written.number == SALFUNYE_ACCEPTED);
+    written = convert(salfunye_to_first, few_slots, strlen(few_slots), 100, "");
+    EXPECT(written.number == SALFUNYE_TOO_FEW_SLOTS && written.line == 1);
+    written = convert(salfunye_to_second, "", 0, 0, "");
+    EXPECT(written.number == SALFUNYE_MISPLACED && written.line == 1);
+
+    /* 6 is by the result, which has 5 bytes more, and comes before 8 */
+    for (size_t size = SALFUNYE_TEXT_SIZE - 5; size <= SALFUNYE_TEXT_SIZE + 1; size++) {
+        char *text = sized(size), *result = taken(size + 6);
+        sprintf(result, "W\t1\t64\t8%s", text + 3);
+        bool fits = size + 5 <= SALFUNYE_TEXT_SIZE;
+        written = convert(salfunye_to_second, text, size, fits ? size + 5 : 0, result);
+        EXPECT(written.number == (fits ? SALFUNYE_ACCEPTED : SALFUNYE_TEXT_TOO_LONG) && written.line == 0);
+        written = convert(salfunye_to_first, text, size, size, text);
+        EXPECT(written.number == (size <= SALFUNYE_TEXT_SIZE ? SALFUNYE_ACCEPTED : SALFUNYE_TEXT_TOO_LONG));
+        free(result);
+        free(text);
+    }
+}
+
 /* 32 workers, 128 tasks of four accesses: every array of a run is in use. `sizes` is what the W line has besides. */
 static void busy(const char *sizes) {
     char *text = taken(SALFUNYE_TEXT_SIZE);
@@ -164,6 +250,7 @@ static void lock(void) {
 
 int main(void) {
     bench();
+    converters();
     busy("");
     busy("\t32\t1");
     busy("\t33\t16");

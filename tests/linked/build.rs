@@ -1,5 +1,7 @@
 //! Links the static libraries that `rt staticlib NAME` writes, or those in the
 //! folder STATICLIB. The gate makes those of the crates whose names end in `_c`.
+//! A folder STATICLIB may be that of an older build, without those of LATER: what
+//! calls none of their functions links all the same.
 
 use std::{
     env,
@@ -7,13 +9,15 @@ use std::{
     process::exit,
 };
 
-const LIBRARIES: &[&str] = &["lock_c", "bench_c"];
+const LIBRARIES: &[&str] = &["lock_c", "bench_c", "convert_c"];
+const LATER: &[&str] = &["convert_c"];
 
 fn main() {
     let package = env::var("CARGO_MANIFEST_DIR").expect("cargo sets it");
-    let folder = match env::var("STATICLIB") {
-        Ok(given) => PathBuf::from(given),
-        Err(_) => Path::new(&package).join("../../target/staticlib"),
+    let given = env::var("STATICLIB").ok();
+    let folder = match &given {
+        Some(given) => PathBuf::from(given),
+        None => Path::new(&package).join("../../target/staticlib"),
     };
     println!("cargo:rerun-if-changed=build.rs");
     println!("cargo:rerun-if-env-changed=STATICLIB");
@@ -27,6 +31,9 @@ fn main() {
         let archive = folder.join(format!("lib{name}.a"));
         println!("cargo:rerun-if-changed={}", archive.display());
         if !archive.exists() {
+            if given.is_some() && LATER.contains(name) {
+                continue;
+            }
             eprintln!(
                 "{} is missing: run `rt staticlib {name}` first",
                 archive.display()

@@ -24,6 +24,7 @@ pub mod refusal {
     pub const STORE_SIZE: u8 = 7;
     pub const OUTPUT_SIZE: u8 = 8;
     pub const FEW_SLOTS: u8 = 9;
+    pub const OTHER_SIZES: u8 = 10;
 }
 
 /// Lines count from 1; line 0 stands for the caller.

@@ -7,7 +7,7 @@ mod rng;
 mod sample;
 
 pub use damage::damaged;
-pub use form::{first_form, is_first_form};
+pub use form::{first_form, is_first_form, with_sizes};
 pub use rng::Rng;
 pub use sample::sample;
 
@@ -183,9 +183,14 @@ fn longest_line(rng: &mut Rng) -> Line {
 }
 
 fn full(rng: &mut Rng) -> Vec<u8> {
+    let size = TEXT_LIMIT - rng.choose(&[0, 0, 0, 1, 2, 3]);
+    plan_of_size(rng, size)
+}
+
+/// A text of exactly so many bytes, 10,000 at least, that is accepted if it isn't too long.
+pub fn plan_of_size(rng: &mut Rng, size: usize) -> Vec<u8> {
     let workers = rng.between(1, 32);
     let mut text = join(&large_tasks(rng, workers));
-    let size = TEXT_LIMIT - rng.choose(&[0, 0, 0, 1, 2, 3]);
     fill(rng, &mut text, workers, size);
     text
 }

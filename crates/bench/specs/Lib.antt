@@ -6,3 +6,4 @@ pub mod Examples
 pub mod OwnAnswer
 pub mod NoPicks
 pub mod Unread
+pub mod Moved

@@ -1,11 +1,11 @@
 -- What a run leaves in an output that is long enough is what is to be printed. Assumes nothing.
 use Prim.Native.Nat.{ℕ, _+_, _-_, _^_, _≤_}
-use mathlib.Core.Path.{_≡_, refl, sym, ap, _∙_}
+use mathlib.Core.Path.{_≡_, refl, ap, _∙_}
 use mathlib.Core.Bool.{Bool, true, false}
 use mathlib.Core.List.{List, _++_}
 use native.Mathlib.Omega.{arith}
-use lib.ListN.{length, take, drop, length-append}
-use lib.Seq.{sets-eq, take-at, drop-at}
+use lib.ListN.{length, take, drop}
+use lib.Seq.{sets-eq}
 use borrow.Author.Tests.{le-ltb}
 use Rattle.refusals.specs.declared.Refusal.{Refusal}
 use Rattle.refusals.specs.declared.Refusal.the-variants.{TextTooLong}
@@ -20,6 +20,7 @@ use Rattle.play.specs.declared.Answer.the-variants.{Reports, Refuses}
 use Rattle.orders.specs.Reached.{reached}
 use Rattle.report.specs.Sizes.{longest}
 use Rattle.play.specs.Outcome.{Outcome, reportOf, refusal, written}
+use Rattle.tools.specs.Printing.{front}
 use Rattle.bench.specs.Answer.{storeSize, cleared, played, run, printedFor, printed}
 use Rattle.play.specs.Short.{accepted-short}
 
@@ -65,17 +66,6 @@ module _ (store output text : List ℕ) where
       go true e = rw (run-long e, reading-long e) (refl, refl)
       go false e = rw (run-read e h) (played-prints (reading text) (λ p q. omega (arith, accepted-short text p q noLimit)))
 
--- the first n bytes of an output are bs, and the later ones as they were
-abbrev Front : ℕ → List ℕ → List ℕ → List ℕ → Type 0
-Front n bs output after = ((n ≤ length after) × (n ≡ length (take n after))) × ((take n after ≡ bs) × (drop n after ≡ drop n output))
-
-front : (n : ℕ) (bs output after : List ℕ) → n ≡ length bs → after ≡ bs ++ drop n output → Front n bs output after
-front n bs output after e q =
-    let first : take n after ≡ bs = rw q (take-at bs (drop n output) n (sym e)) in (
-      (omega (arith, ap length q, length-append bs (drop n output)), rw first e),
-      (first, rw q (drop-at bs (drop n output) n (sym e))),
-    )
-
 module _ (store output text : List ℕ) (h : storeSize ≤ length store) (k : longest ≤ length output) (a : Answer) (left after : List ℕ)
     (e : record { answer = a; store = left; output = after } ≡ run noLimit store output text) where
   ended : Prints (printed text) output a after
@@ -83,10 +73,14 @@ module _ (store output text : List ℕ) (h : storeSize ≤ length store) (k : lo
 
   -- the store is as the run leaves it; n bytes at the front of the last output are to be printed
   abbrev Answered : ℕ → List ℕ → Type 0
-  Answered n last = (left ≡ run noLimit store output text .store) × Front n (printed text) output last
+  Answered n last =
+      (left ≡ run noLimit store output text .store)
+      × (((n ≤ length last) × (n ≡ length (take n last))) × ((take n last ≡ printed text) × (drop n last ≡ drop n output)))
 
   answered : (n : ℕ) (last : List ℕ) → n ≡ length (printed text) → last ≡ printed text ++ drop n output → Answered n last
-  answered n last p q = (ap (λ (o : Outcome). o .store) e, front n (printed text) output last p q)
+  answered n last p q =
+      let f = front n (printed text) output last p (q ∙ ap (λ (k : ℕ). printed text ++ drop k output) p) in
+      (ap (λ (o : Outcome). o .store) e, ((f .within, f .whole), (f .bytes, f .later)))
 
   pub reports : (picks n : ℕ) → a ≡ Reports picks n → Answered n after
   reports picks n q =
@@ -95,7 +89,7 @@ module _ (store output text : List ℕ) (h : storeSize ≤ length store) (k : lo
 
   pub refuses : (r : Refusal) (n : ℕ) → a ≡ Refuses r n → (end : ℕ) (last : List ℕ)
       → Wrote after 0 (fields (refusalFields (number r) n)) end last
-      → end ≤ 0 + 25 → Answered end last
+      → end ≤ 0 + 26 → Answered end last
   refuses r n q end last w short =
       let (x, y) : Prints (printed text) output (Refuses r n) after = rw q at ended in
       let bs = line (refusalFields (number r) n) in

@@ -6,19 +6,10 @@ use mathlib.Core.Logic.{⊎-elim}
 use mathlib.Core.List.{List}
 use lib.ListN.{length, take, length-take}
 use lib.Seq.{take-all}
-use borrow.Author.Tests.{lt-ltb}
 use Rattle.runs.specs.Update.{order}
-use Rattle.refusals.specs.declared.Refusal.the-variants.{TextTooLong}
-use Rattle.plan.specs.Reading.{refused, reading}
-use Rattle.bench.specs.Answer.{textSize, printedFor, printed}
-
--- how many bytes it reads at the most
-abbrev pub readSize : ℕ
-readSize = 65537
-
-too-long : (text : List ℕ) → textSize < length text → reading text ≡ refused TextTooLong 0
-unfolding reading
-too-long text l = rw (lt-ltb textSize (length text) l, reading)
+use Rattle.plan.specs.Reading.{reading}
+use Rattle.tools.specs.Cut.{readSize, too-long}
+use Rattle.bench.specs.Answer.{printedFor, printed}
 
 pub cut-alike : (text : List ℕ) → printed (take readSize text) ≡ printed text
 cut-alike text =

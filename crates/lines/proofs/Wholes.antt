@@ -8,6 +8,7 @@ use native.Mathlib.Omega.{arith}
 use lib.Dec.{eqb, leb, ltb}
 use lib.ListN.{length, drop}
 use borrow.Author.Tests.{le-leb, lt-leb, le-ltb, lt-ltb, leb-true, leb-false, ltb-true, ltb-false, not-false}
+use Rattle.refusals.specs.declared.Refusal.{Refusal}
 use Rattle.refusals.specs.declared.Refusal.the-variants.{OutOfRange, Misplaced, TooFewSlots}
 use Rattle.text.specs.declared.read.Number.{Number}
 use Rattle.text.specs.declared.read.Number.the-variants as numbers
@@ -296,6 +297,10 @@ unfolding firstRefusal
 no-fault misplaced false fault e q = refl
 no-fault true true fault e q = clash (cc)
 no-fault false true fault e q = clash (cc)
+
+-- a fault is not nothing
+pub some-fault : {A : Type 0} (refusal : Refusal) (fault known : Fault) → fault ≡ Is refusal → fault ≡ known → known ≡ Nothing → A
+some-fault refusal fault known is same e = clash (cc)
 
 -- ---- lines that are of their form
 

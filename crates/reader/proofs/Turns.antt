@@ -40,7 +40,7 @@ use Rattle.lines.specs.Judging.{faultBy, judged}
 use Rattle.reader.specs.Keeping.{Keeps}
 use Rattle.reader.specs.declared.Checked.the-variants.{Accepted}
 use Rattle.reader.specs.declared.ReadPlan.{ReadPlan}
-use Rattle.reader.specs.Verdict.{verdict, noPlan, Lent, Gives}
+use Rattle.reader.specs.Verdict.{noPlan, outlined, Lent, Gives}
 use Rattle.lines.proofs.Wholes.{formless-next}
 use Rattle.lines.proofs.Touches.{seen, task-fault, task-room, task-few, task-row}
 
@@ -522,7 +522,13 @@ pub gives-too-long : (text : List ℕ) (l : Lent) {r : ReadPlan} → 65536 < len
 unfolding reading
 gives-too-long text l h e = simp (lt-ltb 65536 (length text) h) (e, ([], refl), ([], refl))
 
-pub gives-checked : (text : List ℕ) (before after : Lent) (r : ReadPlan) (x : Reading) → Gives text before after r x
-    → r .checked ≡ verdict x
-gives-checked text before after r (accepted p) g = g .accepts
-gives-checked text before after r (refused f n) g = ap (λ (q : ReadPlan). q .checked) (g .0)
+pub gives-outlined : (text : List ℕ) (before after : Lent) (r : ReadPlan) (x : Reading) → Gives text before after r x → r ≡ outlined x
+gives-outlined text before after r (accepted p) g =
+    λ i. record {
+      checked = g .accepts i;
+      workers = g .workers i;
+      form = g .form i;
+      tasks = g .tasks i;
+      orders = g .orders i;
+    }
+gives-outlined text before after r (refused f n) g = g .0

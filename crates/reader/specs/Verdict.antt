@@ -46,6 +46,16 @@ told-verdict (refused r line) = refl
 abbrev pub noPlan : Refusal → ℕ → ReadPlan
 noPlan refusal line = record { checked = Refused refusal line; workers = 0; form = First; tasks = 0; orders = 0 }
 
+-- what is answered of a text where nothing of its tasks and order lines is kept
+abbrev pub outlined : Reading → ReadPlan
+outlined (accepted p) =
+    record { checked = Accepted; workers = p .workers; form = p .form; tasks = length (p .tasks); orders = length (p .orders) }
+outlined (refused r line) = noPlan r line
+
+pub outlined-verdict : (x : Reading) → outlined x .checked ≡ verdict x
+outlined-verdict (accepted p) = refl
+outlined-verdict (refused r line) = refl
+
 -- what is lent for the rows of tasks and of order lines, before and after
 pub record Lent : Type 0 where
   pub rows : List ℕ

@@ -7,7 +7,7 @@ ghost use Rattle.plan.specs.Reading.{reading};
 ghost use Rattle.kept.specs.Layout as lay;
 ghost use Rattle.lines.specs.Lines.{Sums};
 ghost use Rattle.reader.specs.Keeping.{Keeps};
-ghost use Rattle.reader.specs.Verdict.{verdict, told, toldOf, noPlan, lent, Gives};
+ghost use Rattle.reader.specs.Verdict.{verdict, told, toldOf, noPlan, outlined, lent, Gives};
 use kept::layout;
 use kept::orders::OrderRow;
 use kept::orders::keep_order;
@@ -167,13 +167,20 @@ pub fn read(text: &[u8], rows: &mut [u64], orders: &mut [u64]) -> ReadPlan
     read_lines(text, rows, orders)
 }
 
-// Checks a plan text: nothing is kept.
+// Reads a plan text and keeps nothing of its tasks and order lines.
+pub fn outline(text: &[u8]) -> ReadPlan
+    ensures { λ r. ⌜ r ≡ outlined (reading (now (text .entry))) ⌝ }
+{
+    let mut none = [0u64; 1];
+    let mut no_orders = [0u64; 1];
+    read(text, &mut none[..0], &mut no_orders[..0])
+}
+
+// Checks a plan text.
 pub fn check(text: &[u8]) -> Checked
     ensures answer { λ r. ⌜ r ≡ verdict (reading (now (text .entry))) ⌝ }
     ensures told { λ r. ⌜ told r ≡ toldOf (reading (now (text .entry))) ⌝ }
 {
-    let mut none = [0u64; 1];
-    let mut no_orders = [0u64; 1];
-    let read = read(text, &mut none[..0], &mut no_orders[..0]);
+    let read = outline(text);
     read.checked
 }

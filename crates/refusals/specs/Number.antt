@@ -1,7 +1,7 @@
 -- The paper's number of a refusal.
 use Prim.Native.Nat.{ℕ}
 use Rattle.refusals.specs.declared.Refusal.{Refusal}
-use Rattle.refusals.specs.declared.Refusal.the-variants.{Malformed, OutOfRange, Misplaced, TooMany, AddressTwice, TextTooLong, StoreTooShort, OutputTooShort, TooFewSlots}
+use Rattle.refusals.specs.declared.Refusal.the-variants.{Malformed, OutOfRange, Misplaced, TooMany, AddressTwice, TextTooLong, StoreTooShort, OutputTooShort, TooFewSlots, OtherSizes}
 
 abbrev pub number : Refusal → ℕ
 number Malformed = 1
@@ -13,3 +13,4 @@ number TextTooLong = 6
 number StoreTooShort = 7
 number OutputTooShort = 8
 number TooFewSlots = 9
+number OtherSizes = 10

@@ -19,14 +19,16 @@ pub enum Refusal {
     TooMany,
     // an address twice in one task
     AddressTwice,
-    // a text of more than 65,536 bytes
+    // a text of more than 65,536 bytes, read or to be written
     TextTooLong,
     // a store of fewer than 8,192 numbers
     StoreTooShort,
-    // an output that is shorter than the report
+    // an output that is shorter than the report or the result
     OutputTooShort,
     // fewer slots than workers
     TooFewSlots,
+    // taken back to the first form: slots and capacity that are not 64 and 8
+    OtherSizes,
 }
 
 // The paper's number.
@@ -43,13 +45,14 @@ pub fn number_of(refusal: Refusal) -> u64
         Refusal::StoreTooShort => 7,
         Refusal::OutputTooShort => 8,
         Refusal::TooFewSlots => 9,
+        Refusal::OtherSizes => 10,
     }
 }
 
-// Writes the line that a program prints, as far as the array reaches; it has at most 25 bytes.
+// Writes the line that a program prints, as far as the array reaches; it has at most 26 bytes.
 pub fn put_refusal(refusal: Refusal, line: u64, out: &mut [u8], at: usize) -> usize
-    requires { ⌜ at + 25 < 2 ^ 64 ⌝ }
-    ensures { λ r. ⌜ Wrote (now (out .entry)) at (fields (refusalFields (number refusal) line)) r (now (out .exit)) × (r ≤ at + 25) ⌝ }
+    requires { ⌜ at + 26 < 2 ^ 64 ⌝ }
+    ensures { λ r. ⌜ Wrote (now (out .entry)) at (fields (refusalFields (number refusal) line)) r (now (out .exit)) × (r ≤ at + 26) ⌝ }
 {
     let next = put_field(b"X", b'\t', out, at);
     let next = put_number(number_of(refusal), b'\t', out, next);

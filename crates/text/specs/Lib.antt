@@ -1,5 +1,6 @@
 pub mod Text
 pub mod Decimals
+pub mod Numerals
 pub mod Fields
 pub mod FieldLaws
 pub mod Lines

@@ -14,8 +14,11 @@ more : (f g : List ℕ) (gs : List (List ℕ)) → length (line (f ∷ g ∷ gs)
 unfolding line
 more f g gs = length-append f (tab ∷ line (g ∷ gs)) ∙ omega arith
 
+pub length-2 : (a b : List ℕ) → length (line (a ∷ b ∷ [])) ≡ length a + length b + 2
+length-2 a b = omega (arith, more a b [], one b)
+
 pub length-3 : (a b c : List ℕ) → length (line (a ∷ b ∷ c ∷ [])) ≡ length a + length b + length c + 3
-length-3 a b c = omega (arith, more a b (c ∷ []), more b c [], one c)
+length-3 a b c = omega (arith, more a b (c ∷ []), length-2 b c)
 
 pub length-4 : (a b c d : List ℕ) → length (line (a ∷ b ∷ c ∷ d ∷ [])) ≡ length a + length b + length c + length d + 4
 length-4 a b c d = omega (arith, more a b (c ∷ d ∷ []), length-3 b c d)

@@ -13,7 +13,8 @@ pub(crate) fn put_byte(byte: u8, out: &mut [u8], at: usize) -> usize
     at + 1
 }
 
-fn put_bytes(bytes: &[u8], out: &mut [u8], at: usize) -> usize
+// Bytes as they stand.
+pub fn put_bytes(bytes: &[u8], out: &mut [u8], at: usize) -> usize
     requires { ⌜ Ends at (plain (now bytes)) ⌝ }
     ensures { λ r. ⌜ Wrote (now (out .entry)) at (plain (now (bytes .entry))) r (now (out .exit)) ⌝ }
 {

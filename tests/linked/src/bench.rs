@@ -7,9 +7,9 @@ use second::run::Reported;
 /// No report is longer: `SALFUNYE_REPORT_SIZE` of the header.
 pub const REPORT_SIZE: usize = 14_433;
 
-fn refusal(number: u64, line: u64) -> Refusal {
+pub(crate) fn refusal(number: u64, line: u64) -> Refusal {
     match u8::try_from(number) {
-        Ok(number @ 1..=9) => Refusal { number, line },
+        Ok(number @ 1..=10) => Refusal { number, line },
         _ => panic!("{number} is no refusal"),
     }
 }

@@ -133,3 +133,29 @@ pub mod bench_c {
         ) -> RanC;
     }
 }
+
+/// `crates/convert_c/src/lib.rt`, and the answer of `crates/tools/src/lib.rt`.
+pub mod convert_c {
+    #[repr(C)]
+    pub struct AnswerC {
+        pub number: u64,
+        pub line: u64,
+        pub length: u64,
+    }
+
+    extern "C" {
+        pub fn salfunye_to_second(
+            text: *const u8,
+            text_length: usize,
+            output: *mut u8,
+            output_length: usize,
+        ) -> AnswerC;
+
+        pub fn salfunye_to_first(
+            text: *const u8,
+            text_length: usize,
+            output: *mut u8,
+            output_length: usize,
+        ) -> AnswerC;
+    }
+}

@@ -1,9 +1,14 @@
-//! The proved functions as Rust sees them: safe wrappers (`lock`, `bench`), and
-//! comparisons with the second implementation (`check`, `many`).
+//! The proved functions as Rust sees them: safe wrappers (`lock`, `bench`,
+//! `convert`), and comparisons with the second implementation: of answers (`check`,
+//! `many`, `moved`) and of times (`speed`).
 
+pub mod arguments;
 pub mod bench;
 pub mod check;
+pub mod convert;
 mod declared;
 pub mod fence;
 pub mod lock;
 pub mod many;
+pub mod moved;
+pub mod speed;

@@ -50,7 +50,7 @@ pub fn compare(call: &Call) -> Result<Result<Reported, Refusal>, String> {
     Ok(answer)
 }
 
-fn difference<T: PartialEq>(one: &[T], other: &[T]) -> Option<usize> {
+pub(crate) fn difference<T: PartialEq>(one: &[T], other: &[T]) -> Option<usize> {
     one.iter().zip(other).position(|(a, b)| a != b)
 }
 

@@ -322,6 +322,7 @@ fn refusals_of_the_header() {
         ("STORE_TOO_SHORT", "7"),
         ("OUTPUT_TOO_SHORT", "8"),
         ("TOO_FEW_SLOTS", "9"),
+        ("OTHER_SIZES", "10"),
     ];
     assert_eq!(numbers, expected);
 }

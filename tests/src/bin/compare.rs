@@ -1,16 +1,18 @@
 //! compare COUNT SEED: has the proof checker compute the bench's definitions on COUNT random plans
-//! and holds each whole answer (report or refusal, picks, store, output) to this implementation's.
+//! and holds each whole answer to this implementation's: of a run (report or refusal, picks, store,
+//! output) and of both converters (length or refusal, output).
 
+use second::convert::{to_first, to_second, Converter};
 use second::machine::{Machine, Place};
 use second::order::Picks;
-use second::plan::check;
+use second::plan::{check, Refusal};
 use second::random::Rng;
 use second::{random, run};
 use std::fmt::Write as _;
 use std::path::{Path, PathBuf};
 use std::process::{exit, Command};
 
-const REFUSALS: [&str; 9] = [
+const REFUSALS: [&str; 10] = [
     "Malformed",
     "OutOfRange",
     "Misplaced",
@@ -20,6 +22,7 @@ const REFUSALS: [&str; 9] = [
     "StoreTooShort",
     "OutputTooShort",
     "TooFewSlots",
+    "OtherSizes",
 ];
 const STORE: usize = 8192;
 const IN_STORE: u64 = 7;
@@ -92,6 +95,40 @@ fn list<T: std::fmt::Display>(values: &[T], fill: Option<(usize, u64)>) -> Strin
     }
 }
 
+/// A refusal as the definitions say it.
+fn refuses(no: Refusal) -> String {
+    format!("Refuses {} {}", REFUSALS[no.number as usize - 1], no.line)
+}
+
+/// An output as it was left.
+fn left(output: &[u8]) -> String {
+    let written = output
+        .iter()
+        .rposition(|&b| b != IN_OUTPUT)
+        .map_or(0, |i| i + 1);
+    let later = output.len() - written;
+    list(&output[..written], Some((later, IN_OUTPUT.into())))
+}
+
+/// The theorem that a converter's definition gives for a text what this implementation gives; in an
+/// output that is now and then too short.
+fn moved(seed: u64, name: &str, convert: Converter) -> String {
+    let text = random::sample(seed);
+    let mut rng = Rng::new(seed ^ 0xf0);
+    let length = convert(&text, &mut vec![0; text.len() + 8]).unwrap_or(text.len());
+    let mut output = vec![IN_OUTPUT; (length + rng.index(6)).saturating_sub(2)];
+    let answer = match convert(&text, &mut output) {
+        Ok(length) => format!("tools.Writes {length}"),
+        Err(no) => format!("tools.{}", refuses(no)),
+    };
+    format!(
+        "{name}-{seed} : converted (replicate {} {IN_OUTPUT}) ({name} ({}))\n    ≡ record {{ answer = {answer}; output = {} }}\nunfolding computed converted afterLine {name}\n{name}-{seed} = refl\n\n",
+        output.len(),
+        list(&text, None),
+        left(&output),
+    )
+}
+
 /// The theorem that the definition gives for this call what this implementation gives.
 fn theorem(seed: u64) -> String {
     let call = draw(seed);
@@ -99,13 +136,9 @@ fn theorem(seed: u64) -> String {
     let mut output = vec![IN_OUTPUT; call.output];
     let answer = match run::run(&call.text, call.limit, &mut store, &mut output) {
         Ok(done) => format!("Reports {} {}", done.picks, done.length),
-        Err(no) => format!("Refuses {} {}", REFUSALS[no.number as usize - 1], no.line),
+        Err(no) => refuses(no),
     };
     let zeros = store.iter().take_while(|&&n| n == 0).count();
-    let written = output
-        .iter()
-        .rposition(|&b| b != IN_OUTPUT)
-        .map_or(0, |i| i + 1);
     format!(
         "seed-{seed} : run {} (replicate {} {IN_STORE}) (replicate {} {IN_OUTPUT}) ({})\n    ≡ record {{ answer = {answer}; store = replicate {zeros} 0 ++ replicate {} {IN_STORE}; output = {} }}\nunfolding computed run written played\nseed-{seed} = refl\n\n",
         call.limit,
@@ -113,7 +146,7 @@ fn theorem(seed: u64) -> String {
         call.output,
         list(&call.text, None),
         call.store - zeros,
-        list(&output[..written], Some((call.output - written, IN_OUTPUT.into()))),
+        left(&output),
     )
 }
 
@@ -126,9 +159,12 @@ fn module(first: u64, count: u64) -> String {
         "use Rattle.refusals.specs.declared.Refusal.the-variants.{{{}}}",
         REFUSALS.join(", ")
     );
-    out.push_str("use Rattle.play.specs.declared.Answer.the-variants.{Reports, Refuses}\nuse Rattle.play.specs.Outcome.{written}\nuse Rattle.bench.specs.Answer.{run, played}\nuse Rattle.bench.specs.Computed.{computed}\n\n");
+    out.push_str("use Rattle.play.specs.declared.Answer.the-variants.{Reports, Refuses}\nuse Rattle.play.specs.Outcome.{written}\nuse Rattle.bench.specs.Answer.{run, played}\nuse Rattle.bench.specs.Computed.{computed}\n");
+    out.push_str("use Rattle.tools.specs.declared.Answer.the-variants as tools\nuse Rattle.tools.specs.Result.{written as converted}\nuse Rattle.convert.specs.Convert.{afterLine, toSecond, toFirst}\n\n");
     for seed in first..first + count {
         out.push_str(&theorem(seed));
+        out.push_str(&moved(seed, "toSecond", to_second));
+        out.push_str(&moved(seed, "toFirst", to_first));
     }
     out
 }
@@ -156,7 +192,7 @@ fn lay_out(root: &Path, text: &str) -> std::io::Result<PathBuf> {
     let listed = std::fs::read_to_string(root.join("crates.txt"))?;
     std::fs::write(
         room.join("crates.txt"),
-        format!("{listed}\ncompared: refusals play bench\n"),
+        format!("{listed}\ncompared: refusals play bench tools convert\n"),
     )?;
     let compared = room.join("crates/compared");
     std::fs::create_dir_all(compared.join("src"))?;

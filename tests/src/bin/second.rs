@@ -1,9 +1,24 @@
-//! Reads a plan on standard input and prints its report or refusal.
+//! second [run|to-second|to-first]: reads a plan on standard input and prints what
+//! `./bench` prints for that command. `run` may be left out.
 
+use second::convert::{self, to_first, to_second};
+use second::run;
 use std::io::{self, Read, Write};
+use std::process::exit;
 
 fn main() -> io::Result<()> {
+    let words: Vec<String> = std::env::args().skip(1).collect();
+    let words: Vec<&str> = words.iter().map(String::as_str).collect();
+    let answer: fn(&[u8]) -> Vec<u8> = match words[..] {
+        [] | ["run"] => |text| run::answer_bytes(text, u64::MAX),
+        ["to-second"] => |text| convert::answer_bytes(to_second, text),
+        ["to-first"] => |text| convert::answer_bytes(to_first, text),
+        _ => {
+            eprintln!("usage: second [run|to-second|to-first]");
+            exit(2);
+        }
+    };
     let mut text = Vec::new();
     io::stdin().read_to_end(&mut text)?;
-    io::stdout().write_all(&second::run::answer_bytes(&text, u64::MAX))
+    io::stdout().write_all(&answer(&text))
 }

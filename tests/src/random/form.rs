@@ -50,6 +50,18 @@ pub fn workers_line(workers: u64, form: Form) -> Line {
     }
 }
 
+/// Slots and capacity behind the last field of the first line, whatever that has; a
+/// text without a line feed stays as it is.
+pub fn with_sizes(text: &[u8], slots: u64, capacity: u64) -> Vec<u8> {
+    match text.iter().position(|&byte| byte == b'\n') {
+        Some(end) => {
+            let sizes = format!("\t{slots}\t{capacity}");
+            [&text[..end], sizes.as_bytes(), &text[end..]].concat()
+        }
+        None => text.to_vec(),
+    }
+}
+
 /// Draws until no line is a W line with slots and capacity. Such texts mean the
 /// same, and are refused alike, where the second form is unknown.
 pub fn first_form(rng: &mut Rng, draw: impl Fn(&mut Rng) -> Vec<u8>) -> Vec<u8> {

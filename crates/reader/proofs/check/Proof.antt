@@ -1,43 +1,20 @@
--- `reader::check` meets its contract: nothing is lent to `read`. Assumes nothing.
+-- `reader::check` meets its contract: what is answered in outline. Assumes nothing.
 use mathlib.Core.Path.{ap, _∙_}
-use mathlib.Core.List.{[]}
 use borrow.Author.Needs.{needs}
 use Rattle.plan.specs.Reading.{reading}
-use Rattle.reader.specs.Verdict.{told, lent, told-verdict}
-use Rattle.reader.proofs.Turns.{gives-checked}
+use Rattle.reader.specs.declared.ReadPlan.{ReadPlan}
+use Rattle.reader.specs.Verdict.{told, told-verdict, outlined-verdict}
 use Rattle.reader.proofs.check.Statement.{statement}
 use Rattle.reader.proofs.check.Tie as tie
 
-array-borrow-prefix-none : tie.Need-array-borrow-prefix-none
-array-borrow-prefix-none c = search needs
-
-slice-aggregate-read : tie.Need-slice-aggregate-read
-slice-aggregate-read c = search needs
-
-array-borrow-prefix-no-orders : tie.Need-array-borrow-prefix-no-orders
-array-borrow-prefix-no-orders c = search needs
-
-slice-aggregate-read-2 : tie.Need-slice-aggregate-read-2
-slice-aggregate-read-2 c = search needs
-
-read-requires : tie.Need-read-requires
-read-requires c κs = search needs
+outline-requires : tie.Need-outline-requires
+outline-requires c κs = search needs
 
 returns : tie.Need-returns
 returns c =
-    let text = c .before .before .before .before .before .before .args .text .now in
-    let read = c .before .before .read in
-    let after = lent (read .last .1 .0) (read .last .1 .1 .0) in
-    let answer = gives-checked text (lent [] []) after (read .result) (reading text) (read .ensures) in
-    (answer, ap told answer ∙ told-verdict (reading text))
+    let x = reading (c .before .before .args .text .now) in
+    let answer = ap (λ (r : ReadPlan). r .checked) (c .outline .ensures) ∙ outlined-verdict x in
+    (answer, ap told answer ∙ told-verdict x)
 
 pub check-spec : {M : Type 1} → statement M
-check-spec =
-    tie.close
-    (tie.spec
-    array-borrow-prefix-none
-    slice-aggregate-read
-    array-borrow-prefix-no-orders
-    slice-aggregate-read-2
-    read-requires
-    returns)
+check-spec = tie.close (tie.spec outline-requires returns)

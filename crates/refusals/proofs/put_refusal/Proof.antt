@@ -30,7 +30,7 @@ put-number-requires-2 c κs =
     let s = letter .before .before .before .before in
     let wrote = wrote-same (number .put-number .ensures .1) (ap decimal (sym (told .number-of .ensures))) in
     let at1 = short-next 1 (omega arith) (letter .put-field .ensures) in
-    let at2 = short-next 1 (number-short (s .args .refusal)) wrote in
+    let at2 = short-next 2 (number-short (s .args .refusal)) wrote in
     omega (arith, at1, at2, s .pre)
 
 same-length : tie.Need-same-length
@@ -46,7 +46,7 @@ returns c =
     let s = letter .before .before .before .before in
     let wrote = wrote-same (number .put-number .ensures .1) (ap decimal (sym (told .number-of .ensures))) in
     let at1 = short-next 1 (omega arith) (letter .put-field .ensures) in
-    let at2 = short-next 1 (number-short (s .args .refusal)) wrote in
+    let at2 = short-next 2 (number-short (s .args .refusal)) wrote in
     let at3 = line .put-number2 .ensures .0 in (
       wrote-field (letter .put-field .ensures) (wrote-field wrote (wrote-last (line .put-number2 .ensures .1) refl)),
       omega (arith, at1, at2, at3),

@@ -1,18 +1,12 @@
 //! check_many COUNT SEED: holds the proved reader to the second implementation's
 //! on COUNT random and damaged texts.
 
+use linked::arguments::count_and_seed;
 use std::io::Write;
 use std::process::exit;
 
 fn main() {
-    let words: Vec<u64> = std::env::args()
-        .skip(1)
-        .filter_map(|w| w.parse().ok())
-        .collect();
-    let [count, seed] = words[..] else {
-        eprintln!("usage: check_many COUNT SEED");
-        exit(2);
-    };
+    let (count, seed) = count_and_seed("check_many");
     match linked::check::compare(count, seed) {
         Ok(counts) => {
             println!("{count} texts from seed {seed}, no difference");

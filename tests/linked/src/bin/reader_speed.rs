@@ -2,35 +2,26 @@
 //! same texts, in one run: plans of 65,536 bytes, and short texts, accepted
 //! and refused in their last line. Neither clears any buffer between.
 
+use linked::speed::shortest;
 use second::random::{plan, Rng, Shape};
 use std::hint::black_box;
-use std::time::Instant;
 
 /// Calls that one measured time of a short text holds.
 const CALLS: usize = 10_000;
+const ROUNDS: usize = 300;
 
-/// The time of a pass over all texts, in seconds.
-fn pass(texts: &[Vec<u8>], accepted: bool, read: impl Fn(&[u8]) -> bool) -> f64 {
-    let start = Instant::now();
+/// Reads all texts.
+fn pass(texts: &[Vec<u8>], accepted: bool, read: impl Fn(&[u8]) -> bool) {
     for text in texts {
         assert_eq!(black_box(read(black_box(text))), accepted);
     }
-    start.elapsed().as_secs_f64()
 }
 
-/// In turn, and the shortest pass of each: what else the machine does then
-/// counts for both.
-fn shortest(texts: &[Vec<u8>], accepted: bool) -> (f64, f64) {
-    let (mut proved, mut second) = (f64::MAX, f64::MAX);
-    for _ in 0..300 {
-        proved = proved.min(pass(texts, accepted, |text| {
-            linked::bench::check(text).is_ok()
-        }));
-        second = second.min(pass(texts, accepted, |text| {
-            second::plan::check(text).is_ok()
-        }));
-    }
-    (proved, second)
+/// The shortest passes of the proved reader and of the second implementation's.
+fn passes(texts: &[Vec<u8>], accepted: bool) -> [f64; 2] {
+    let mut proved = |_| pass(texts, accepted, |text| linked::bench::check(text).is_ok());
+    let mut second = |_| pass(texts, accepted, |text| second::plan::check(text).is_ok());
+    shortest(ROUNDS, [&mut proved, &mut second])
 }
 
 /// A plan of 100 bytes.
@@ -50,7 +41,7 @@ fn main() {
         }
     }
     let bytes = (texts.len() * 65_536) as f64;
-    let (proved, second) = shortest(&texts, true);
+    let [proved, second] = passes(&texts, true);
     println!("proved reader:         {:7.1} MB/s", bytes / proved / 1e6);
     println!("second implementation: {:7.1} MB/s", bytes / second / 1e6);
     println!("ratio of times:        {:7.2}", proved / second);
@@ -62,7 +53,7 @@ fn main() {
         ("100 bytes, accepted", accepted, true),
         ("100 bytes, refused in the last line", refused, false),
     ] {
-        let (proved, second) = shortest(&vec![text; CALLS], ok);
+        let [proved, second] = passes(&vec![text; CALLS], ok);
         let each = |time: f64| time / CALLS as f64 * 1e9;
         println!(
             "{name}: {:.0} ns, second implementation {:.0} ns, ratio {:.2}",

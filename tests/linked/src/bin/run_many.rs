@@ -1,18 +1,12 @@
 //! run_many COUNT SEED: holds the proved run to the second implementation's on
 //! COUNT random and damaged plans, with random limits, stores and outputs.
 
+use linked::arguments::count_and_seed;
 use std::io::Write;
 use std::process::exit;
 
 fn main() {
-    let words: Vec<u64> = std::env::args()
-        .skip(1)
-        .filter_map(|w| w.parse().ok())
-        .collect();
-    let [count, seed] = words[..] else {
-        eprintln!("usage: run_many COUNT SEED");
-        exit(2);
-    };
+    let (count, seed) = count_and_seed("run_many");
     match linked::many::compare_many(count, seed) {
         Ok((counts, picks)) => {
             println!("{count} runs from seed {seed}, {picks} picks, no difference");

@@ -2,8 +2,7 @@
 use mathlib.Core.Path.{refl}
 use native.Mathlib.Omega.{arith}
 use borrow.Author.Needs.{needs}
-use Rattle.runs.specs.Update.{clash}
-use Rattle.lines.proofs.Wholes.{no-fault}
+use Rattle.lines.proofs.Wholes.{no-fault, some-fault}
 use Rattle.lines.proofs.line.order_line.Statement.{statement}
 use Rattle.lines.proofs.line.order_line.Tie as tie
 
@@ -20,7 +19,7 @@ returns c =
       after = refl;
       ended = refl;
       judged = c .before .before .first-fault .ensures;
-      tells = λ e. clash (cc (c .enum-told .given .1, c .before .before .first-fault .ensures));
+      tells = some-fault _ _ _ (c .enum-told .given .1) (c .before .before .first-fault .ensures);
     }
 
 enum-told-2 : tie.Need-enum-told-2

@@ -1,0 +1,25 @@
+-- What is answered and left in the output, by whether it is long enough for the result.
+use Prim.Native.Nat.{ℕ, _≤_, _<_}
+use mathlib.Core.Path.{_≡_, refl}
+use mathlib.Core.List.{List, [], _∷_, _++_}
+use lib.ListN.{length, drop}
+use borrow.Author.Tests.{lt-ltb, le-ltb}
+use Rattle.refusals.specs.declared.Refusal.the-variants.{OutputTooShort}
+use Rattle.tools.specs.declared.Answer.the-variants.{Writes, Refuses}
+use Rattle.tools.specs.Result.{result, outcome, written}
+
+module _ (output bs : List ℕ) where
+  pub written-short : length output < length bs → written output (result bs) ≡ outcome (Refuses OutputTooShort 0) output
+  unfolding written
+  written-short l = rw (lt-ltb (length output) (length bs) l, written)
+
+  pub written-whole : length bs ≤ length output
+      → written output (result bs) ≡ outcome (Writes (length bs)) (bs ++ drop (length bs) output)
+  unfolding written
+  written-whole l = rw (le-ltb (length output) (length bs) l, written)
+
+-- computed: a result of one byte, in an output of three bytes and in none
+pub one-byte : (written (1 ∷ 2 ∷ 3 ∷ []) (result (7 ∷ [])) ≡ outcome (Writes 1) (7 ∷ 2 ∷ 3 ∷ []))
+    × (written [] (result (7 ∷ [])) ≡ outcome (Refuses OutputTooShort 0) [])
+unfolding written
+one-byte = (refl, refl)

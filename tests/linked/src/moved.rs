@@ -1,0 +1,229 @@
+//! The proved converters beside the second implementation's: the same answer and
+//! the same output, nothing changed around it, the old bytes on the way back, and
+//! the same report of a moved plan.
+
+use crate::bench::{run, REPORT_SIZE};
+use crate::fence::Fenced;
+use crate::many::{difference, used_output, used_store};
+use crate::{check, convert};
+use second::convert::{to_first, to_second, Converter};
+use second::plan::{Form, Refusal, CAPACITY, SLOTS, TEXT_LIMIT};
+use second::random::{first_form, plan_of_size, with_sizes, Rng};
+use second::run::STORE_SIZE;
+
+/// A converter: the proved one, and the second implementation's.
+pub struct Way {
+    pub name: &'static str,
+    proved: Converter,
+    second: Converter,
+}
+
+pub const TO_SECOND: Way = Way {
+    name: "to-second",
+    proved: convert::to_second,
+    second: to_second,
+};
+pub const TO_FIRST: Way = Way {
+    name: "to-first",
+    proved: convert::to_first,
+    second: to_first,
+};
+
+/// Bytes that a W line has more in the second form: `64` and `8`, with their tabs.
+const LONGER: usize = 5;
+/// Picks of the runs whose reports are compared, and one in so many moved plans is run.
+const PICKS: u64 = 3_000;
+const RUN_ONE_IN: u64 = 4;
+
+/// The result of one call, or its refusal; or else what differs.
+pub fn compare(way: &Way, text: &[u8], output: &[u8]) -> Result<Result<Vec<u8>, Refusal>, String> {
+    let mut fenced = Fenced::new(output, |place| place as u8 ^ 0xa5);
+    let answer = (way.proved)(text, fenced.lend());
+    let mut second = output.to_vec();
+    let expected = (way.second)(text, &mut second);
+    let what = if answer != expected {
+        format!("answer {answer:?}, expected {expected:?}")
+    } else if let Some(place) = difference(fenced.inside(), &second) {
+        format!("byte {place} of the output")
+    } else if !fenced.stands() {
+        "what stands around the output".to_string()
+    } else {
+        return Ok(expected.map(|length| second[..length].to_vec()));
+    };
+    Err(format!("{}, output of {}: {what}", way.name, output.len()))
+}
+
+/// Kinds of calls and texts, and how often each was met.
+#[derive(Debug)]
+pub struct Seen(Vec<(String, u64)>);
+
+const LONG_RESULT: &str = "to-second: refused with 6 by its result";
+const JUST_TOO_LONG: &str = "to-second: refused with 6 by a result of 65537";
+const LATER_FAULT: &str = "other sizes and a fault in a later line";
+const BACK: &str = "moved, and back to the old bytes";
+const REPORTED: &str = "moved, with the same report";
+
+fn kind(way: &Way, what: &str) -> String {
+    format!("{}: {what}", way.name)
+}
+
+fn refused(way: &Way, number: u8) -> String {
+    kind(way, &format!("refused with {number}"))
+}
+
+impl Default for Seen {
+    /// All kinds, none of them met.
+    fn default() -> Seen {
+        let mut kinds = Vec::new();
+        for way in [TO_SECOND, TO_FIRST] {
+            let results = [
+                "moved",
+                "unchanged",
+                "a result of 65535",
+                "a result of 65536",
+            ];
+            kinds.extend(results.map(|what| kind(&way, what)));
+            kinds.extend([1, 2, 3, 4, 5, 6, 8, 9].map(|number| refused(&way, number)));
+        }
+        kinds.push(refused(&TO_FIRST, 10));
+        let others = [LONG_RESULT, JUST_TOO_LONG, LATER_FAULT, BACK, REPORTED];
+        kinds.extend(others.map(String::from));
+        Seen(kinds.into_iter().map(|kind| (kind, 0)).collect())
+    }
+}
+
+impl Seen {
+    fn add(&mut self, kind: &str) {
+        let known = self.0.iter_mut().find(|(known, _)| known == kind);
+        known.unwrap_or_else(|| panic!("no kind: {kind}")).1 += 1;
+    }
+
+    fn add_answer(&mut self, way: &Way, text: &[u8], answer: &Result<Vec<u8>, Refusal>) {
+        match answer {
+            Ok(result) => {
+                let changed = if result == text { "unchanged" } else { "moved" };
+                self.add(&kind(way, changed));
+                if result.len() >= TEXT_LIMIT - 1 {
+                    self.add(&kind(way, &format!("a result of {}", result.len())));
+                }
+            }
+            Err(Refusal { number: 6, .. }) if text.len() <= TEXT_LIMIT => {
+                self.add(LONG_RESULT);
+                if text.len() + LONGER == TEXT_LIMIT + 1 {
+                    self.add(JUST_TOO_LONG);
+                }
+            }
+            Err(refusal) => self.add(&refused(way, refusal.number)),
+        }
+    }
+
+    pub fn all(&self) -> &[(String, u64)] {
+        &self.0
+    }
+
+    /// Kinds that were met less often than this.
+    pub fn rarer_than(&self, times: u64) -> Vec<&str> {
+        let rare = self.0.iter().filter(|(_, met)| *met < times);
+        rare.map(|(kind, _)| kind.as_str()).collect()
+    }
+}
+
+/// A text of either form, sound or damaged, often with sizes of 64 and 8 or nearly
+/// so, and at times so long that its result is or is not too long.
+pub fn random_text(rng: &mut Rng) -> Vec<u8> {
+    let text = match rng.below(24) {
+        0 => {
+            let size = TEXT_LIMIT - LONGER - 1 + rng.choose(&[0, 1, 2, LONGER, LONGER + 1]);
+            first_form(rng, |rng| plan_of_size(rng, size))
+        }
+        1..=16 => first_form(rng, check::random_text),
+        _ => return check::random_text(rng),
+    };
+    let (slots, capacity) = match rng.below(12) {
+        0..=4 => return text,
+        5..=8 => (SLOTS, CAPACITY),
+        9 => (SLOTS, rng.choose(&[1, 7, 9, 16])),
+        10 => (rng.choose(&[8, 32, 63]), CAPACITY),
+        _ => (rng.between(32, 63), rng.between(1, 16)),
+    };
+    with_sizes(&text, slots, capacity)
+}
+
+/// Compares both converters on a text, with outputs of all lengths around that of
+/// the result, and what can be done with a result.
+pub fn compare_text(text: &[u8], rng: &mut Rng, seen: &mut Seen) -> Result<(), String> {
+    for (way, back) in [(TO_SECOND, TO_FIRST), (TO_FIRST, TO_SECOND)] {
+        let room = text.len() + LONGER + rng.index(400);
+        let result = compare(&way, text, &used_output(room, rng.byte()))?;
+        let length = result.as_ref().map_or(text.len(), Vec::len);
+        for room in (0..2).chain(length.saturating_sub(2)..length + 3) {
+            let answer = compare(&way, text, &used_output(room, rng.byte()))?;
+            seen.add_answer(&way, text, &answer);
+        }
+        match result {
+            Ok(moved) if moved != text => compare_moved(text, &moved, &back, rng, seen)?,
+            Err(refusal) if refusal.line > 1 && names_other_sizes(text) => seen.add(LATER_FAULT),
+            _ => {}
+        }
+    }
+    Ok(())
+}
+
+/// Whether the first line is sound and has other sizes than 64 and 8.
+fn names_other_sizes(text: &[u8]) -> bool {
+    let first = text.split_inclusive(|&byte| byte == b'\n').next();
+    let plan = second::plan::check(first.unwrap_or_default());
+    plan.is_ok_and(|plan| match plan.form {
+        Form::First => false,
+        Form::Second { slots, capacity } => (slots, capacity) != (SLOTS, CAPACITY),
+    })
+}
+
+/// A text and the other one that it was moved to: the way back, and the reports.
+fn compare_moved(
+    text: &[u8],
+    moved: &[u8],
+    back: &Way,
+    rng: &mut Rng,
+    seen: &mut Seen,
+) -> Result<(), String> {
+    let room = used_output(text.len(), rng.byte());
+    if compare(back, moved, &room)?.as_deref() != Ok(text) {
+        return Err(format!("{} of its result: other bytes", back.name));
+    }
+    seen.add(BACK);
+    if rng.one_in(RUN_ONE_IN) {
+        if report(text) != report(moved) {
+            return Err("the reports of both forms".to_string());
+        }
+        seen.add(REPORTED);
+    }
+    Ok(())
+}
+
+/// The picks and the report of an accepted plan.
+fn report(text: &[u8]) -> (u64, Vec<u8>) {
+    let (mut store, mut output) = (used_store(STORE_SIZE, 3), used_output(REPORT_SIZE, 3));
+    let reported = run(text, PICKS, &mut store, &mut output).expect("a report");
+    output.truncate(reported.length);
+    (reported.picks, output)
+}
+
+/// The text on which something differs, and what.
+pub struct Difference {
+    pub text: Vec<u8>,
+    pub what: String,
+}
+
+/// Compares both converters on so many random texts.
+pub fn compare_many(texts: u64, seed: u64) -> Result<Seen, Difference> {
+    let mut rng = Rng::new(seed);
+    let mut seen = Seen::default();
+    for _ in 0..texts {
+        let text = random_text(&mut rng);
+        if let Err(what) = compare_text(&text, &mut rng, &mut seen) {
+            return Err(Difference { text, what });
+        }
+    }
+    Ok(seen)
+}
