@@ -6,10 +6,8 @@ use mathlib.Core.List.{List, _++_}
 use native.Mathlib.Omega.{arith}
 use lib.ListN.{length, take, drop, replicate, length-replicate}
 use lib.Seq.{take-at, drop-at}
-use borrow.Author.Tests.{lt-ltb, le-ltb}
 use Rattle.runs.specs.Update.{order, clash}
 use Rattle.refusals.specs.declared.Refusal.{Refusal}
-use Rattle.refusals.specs.declared.Refusal.the-variants.{TextTooLong, StoreTooShort}
 use Rattle.plan.specs.Plan.{Plan}
 use Rattle.plan.specs.Reading.{Reading, accepted, refused, reading}
 use Rattle.plan.specs.Accepted.{accepted-well-formed, accepted-orders}
@@ -25,7 +23,7 @@ use Rattle.play.specs.declared.Answer.the-variants.{Refuses}
 use Rattle.play.specs.Outcome.{Outcome, reportOf, written}
 use Rattle.play.specs.Loaded.{Loaded}
 use Rattle.play.specs.Written.{written-short, written-whole}
-use Rattle.bench.specs.Answer.{textSize, storeSize, cleared, played, run}
+use Rattle.bench.specs.Answer.{storeSize, cleared, played}
 
 -- what a plan that was read says of the text's reading
 module _ (text : List ℕ) (before after : Lent) (r : ReadPlan) (g : Gives text before after r (reading text)) where
@@ -63,21 +61,6 @@ module _ (text : List ℕ) (before after : Lent) (r : ReadPlan) (g : Gives text 
       go (refused y k) q h = let w : Refused y k ≡ Accepted = sym (ap (λ (z : ReadPlan). z .checked) (h .0)) ∙ e in clash (cc)
 
 module _ (limit : ℕ) (store output text : List ℕ) where
-  pub run-long : textSize < length text
-      → record { answer = Refuses TextTooLong 0; store = store; output = output } ≡ run limit store output text
-  unfolding run
-  run-long l = sym (rw (run, lt-ltb textSize (length text) l) refl)
-
-  module _ (short : length text ≤ textSize) where
-    pub run-small : length store < storeSize
-        → record { answer = Refuses StoreTooShort 0; store = store; output = output } ≡ run limit store output text
-    unfolding run
-    run-small l = sym (rw (run, le-ltb textSize (length text) short, lt-ltb (length store) storeSize l) refl)
-
-    pub run-read : storeSize ≤ length store → played limit store output (reading text) ≡ run limit store output text
-    unfolding run
-    run-read room = sym (rw (run, le-ltb textSize (length text) short, le-ltb (length store) storeSize room) refl)
-
   -- a text that is read: the store is cleared
   module _ (left : List ℕ) (clear : left ≡ replicate storeSize 0 ++ drop storeSize store) where
     pub played-refused : (x : Refusal) (n : ℕ) → reading text ≡ refused x n

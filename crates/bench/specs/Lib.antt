@@ -1,4 +1,5 @@
 pub mod Answer
+pub mod Tested
 pub mod Told
 pub mod Computed
 pub mod Leaves

@@ -1,14 +1,12 @@
 -- A moved plan gives the same answer of a run, store and output included, and its program prints the same.
-use Prim.Native.Nat.{ℕ, _^_, _-_, _≤_}
-use mathlib.Core.Path.{_≡_, refl, sym, ap, _∙_}
-use mathlib.Core.Bool.{Bool, true, false}
+use Prim.Native.Nat.{ℕ, _^_, _-_, _≤_, _<_}
+use mathlib.Core.Path.{_≡_, sym, ap, _∙_}
+use mathlib.Core.Logic.{⊎-elim}
 use mathlib.Core.List.{List}
 use lib.ListN.{length}
-use lib.Dec.{ltb}
-use borrow.Author.Tests.{le-ltb}
-use Rattle.refusals.specs.declared.Refusal.the-variants.{StoreTooShort}
+use Rattle.runs.specs.Update.{order}
 use Rattle.plan.specs.declared.form.Form.{Form}
-use Rattle.plan.specs.declared.form.Form.the-variants.{First, Second}
+use Rattle.plan.specs.declared.form.Form.the-variants.{First}
 use Rattle.plan.specs.Plan.{slotsOf, capacityOf, Plan}
 use Rattle.plan.specs.Reading.{accepted, reading}
 use Rattle.plan.specs.Accepted.{accepted-length}
@@ -17,20 +15,17 @@ use Rattle.machine.specs.State.{Setup}
 use Rattle.machine.specs.Step.{after}
 use Rattle.report.specs.Report.{report}
 use Rattle.orders.specs.Reached.{setupOf}
-use Rattle.play.specs.Outcome.{refusal, written}
+use Rattle.play.specs.Outcome.{written}
 use Rattle.tools.specs.Result.{result}
 use Rattle.convert.specs.Convert.{spelledOut, toSecond, toFirst}
 use Rattle.convert.specs.Reread.{withForm}
-use Rattle.convert.specs.Moved.{second-plan, second-means, first-plan, first-means, first-had}
+use Rattle.convert.specs.Moved.{spelled-alike, second-plan, second-means, first-plan, first-means, first-had}
 use Rattle.bench.specs.Answer.{textSize, storeSize, cleared, played, run, printedFor, printed}
+use Rattle.bench.specs.Tested.{run-small, run-read}
 
 -- a form means the same sizes as another
 abbrev Alike : Form → Form → Type 0
 Alike form other = (slotsOf form ≡ slotsOf other) × (capacityOf form ≡ capacityOf other)
-
-spelled-alike : (form : Form) → Alike (spelledOut form) form
-spelled-alike First = (refl, refl)
-spelled-alike (Second slots capacity) = (refl, refl)
 
 -- the plan in such a form is played with the same
 same-setup : (form : Form) (p : Plan) → Alike form (p .form) → setupOf (withForm form p) ≡ setupOf p
@@ -45,17 +40,6 @@ module _ (text moved : List ℕ) (p : Plan) (e : reading text ≡ accepted p) (f
   short-moved = accepted-length moved (withForm form p) m
 
   module _ (limit : ℕ) (store output : List ℕ) where
-    -- a text that is not too long: the store's length is tested, and it is played
-    small : (t : List ℕ) → length t ≤ textSize → ltb (length store) storeSize ≡ true
-        → run limit store output t ≡ refusal store output StoreTooShort 0
-    unfolding run
-    small t l s = rw (run, le-ltb textSize (length t) l, s) refl
-
-    large : (t : List ℕ) → length t ≤ textSize → ltb (length store) storeSize ≡ false
-        → run limit store output t ≡ played limit store output (reading t)
-    unfolding run
-    large t l s = rw (run, le-ltb textSize (length t) l, s) refl
-
     played-alike : played limit store output (accepted (withForm form p)) ≡ played limit store output (accepted p)
     unfolding played
     played-alike =
@@ -64,14 +48,15 @@ module _ (text moved : List ℕ) (p : Plan) (e : reading text ≡ accepted p) (f
         (same-setup form p alike)
 
     run-alike : run limit store output moved ≡ run limit store output text
-    run-alike = go (ltb (length store) storeSize) refl
-      where
-        go : (b : Bool) → ltb (length store) storeSize ≡ b → run limit store output moved ≡ run limit store output text
-        go true s = small moved short-moved s ∙ sym (small text short s)
-        go false s =
-            large moved short-moved s
-            ∙ ap (played limit store output) m ∙ played-alike ∙ sym (ap (played limit store output) e)
-            ∙ sym (large text short s)
+    run-alike =
+        ⊎-elim
+        (λ (small : length store < storeSize).
+        run-small limit store output moved short-moved small ∙ sym (run-small limit store output text short small))
+        (λ (large : storeSize ≤ length store).
+        run-read limit store output moved short-moved large
+        ∙ ap (played limit store output) m ∙ played-alike ∙ sym (ap (played limit store output) e)
+        ∙ sym (run-read limit store output text short large))
+        (order (length store) storeSize)
 
   prints-alike : printed moved ≡ printed text
   unfolding printedFor

@@ -1,16 +1,14 @@
 -- What the run of an accepted text itself answers: its report, and `finished` where the finishing figure applies.
 use Prim.Native.Nat.{ℕ, _≤_}
 use mathlib.Core.Path.{_≡_, refl, ap, _∙_}
-use mathlib.Core.Bool.{Bool, true, false, cond}
+use mathlib.Core.Bool.{true}
 use mathlib.Core.List.{List, [], _∷_, _++_, append-assoc}
 use lib.ListN.{length, drop}
-use borrow.Author.Tests.{le-ltb}
-use Rattle.runs.specs.Update.{clash}
 use Rattle.runs.specs.Picks.{Regular}
-use Rattle.refusals.specs.declared.Refusal.the-variants.{TextTooLong}
-use Rattle.text.specs.Text.{lineFeed, bytes, decimal, split, line}
-use Rattle.plan.specs.Plan.{Plan, emptyPlan}
-use Rattle.plan.specs.Reading.{accepted, refused, readLines, isTooLong, reading}
+use Rattle.text.specs.Text.{bytes, decimal, line}
+use Rattle.plan.specs.Plan.{Plan}
+use Rattle.plan.specs.Reading.{accepted, reading}
+use Rattle.plan.specs.Accepted.{accepted-length}
 use Rattle.plan.specs.Orders.{picksUpTo}
 use Rattle.machine.specs.Step.{finished}
 use Rattle.machine.specs.Figures.{finishingFigure}
@@ -21,16 +19,7 @@ use Rattle.play.specs.declared.Answer.the-variants.{Reports}
 use Rattle.play.specs.Outcome.{reportOf, written}
 use Rattle.play.specs.Written.{written-whole}
 use Rattle.bench.specs.Answer.{storeSize, cleared, played, run}
-
--- no accepted text is too long
-not-too-long : (text : List ℕ) (p : Plan) → reading text ≡ accepted p → isTooLong text ≡ false
-unfolding reading
-not-too-long text p e = go (isTooLong text) refl e
-  where
-    go : (b : Bool) → isTooLong text ≡ b → cond b (refused TextTooLong 0) (readLines emptyPlan 1 (split lineFeed text)) ≡ accepted p
-        → isTooLong text ≡ false
-    go true d z = clash (cc)
-    go false d z = d
+use Rattle.bench.specs.Tested.{run-read}
 
 -- the bytes begin with those
 abbrev pub Begins : List ℕ → List ℕ → Type 0
@@ -58,8 +47,8 @@ module _ (text : List ℕ) (p : Plan) (e : reading text ≡ accepted p) (limit :
     (room : storeSize ≤ length store) where
   -- the report of the state that the plan's own picks reach, where the output is long enough for it, and else a refusal
   pub answers : run limit store output text ≡ written (cleared store) output ((reached p limit) .picks) (reportOf p limit)
-  unfolding run played
-  answers = rw (run, not-too-long text p e, le-ltb (length store) storeSize room, e, played)
+  unfolding played
+  answers = run-read limit store output text (accepted-length text p e) room ∙ ap (played limit store output) e
 
   module _ (long : length (reportOf p limit) ≤ length output) where
     -- the answer says how many picks were taken and how long the report is; the output begins with the report

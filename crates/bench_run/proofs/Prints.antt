@@ -1,17 +1,18 @@
 -- What a run leaves in an output that is long enough is what is to be printed. Assumes nothing.
-use Prim.Native.Nat.{ℕ, _+_, _-_, _^_, _≤_}
+use Prim.Native.Nat.{ℕ, _+_, _-_, _^_, _≤_, _<_}
 use mathlib.Core.Path.{_≡_, refl, ap, _∙_}
-use mathlib.Core.Bool.{Bool, true, false}
+use mathlib.Core.Logic.{⊎-elim}
 use mathlib.Core.List.{List, _++_}
 use native.Mathlib.Omega.{arith}
 use lib.ListN.{length, take, drop}
 use lib.Seq.{sets-eq}
 use borrow.Author.Tests.{le-ltb}
+use Rattle.runs.specs.Update.{order}
 use Rattle.refusals.specs.declared.Refusal.{Refusal}
-use Rattle.refusals.specs.declared.Refusal.the-variants.{TextTooLong}
 use Rattle.text.specs.Text.{line}
 use Rattle.plan.specs.Plan.{Plan}
-use Rattle.plan.specs.Reading.{Reading, accepted, refused, isTooLong, reading}
+use Rattle.plan.specs.Reading.{Reading, accepted, refused, reading}
+use Rattle.plan.specs.Lengths.{reading-long}
 use Rattle.refusals.specs.Number.{number}
 use Rattle.text.specs.Writing.{fields, Wrote}
 use Rattle.refusals.specs.Line.{refusalFields}
@@ -19,9 +20,10 @@ use Rattle.play.specs.declared.Answer.{Answer}
 use Rattle.play.specs.declared.Answer.the-variants.{Reports, Refuses}
 use Rattle.orders.specs.Reached.{reached}
 use Rattle.report.specs.Sizes.{longest}
-use Rattle.play.specs.Outcome.{Outcome, reportOf, refusal, written}
+use Rattle.play.specs.Outcome.{Outcome, reportOf, written}
 use Rattle.tools.specs.Printing.{front}
-use Rattle.bench.specs.Answer.{storeSize, cleared, played, run, printedFor, printed}
+use Rattle.bench.specs.Answer.{textSize, storeSize, cleared, played, run, printedFor, printed}
+use Rattle.bench.specs.Tested.{run-long, run-read}
 use Rattle.play.specs.Short.{accepted-short}
 
 abbrev noLimit : ℕ
@@ -36,18 +38,6 @@ abbrev Outputs : List ℕ → List ℕ → Outcome → Type 0
 Outputs bs output o = Prints bs output (o .answer) (o .output)
 
 module _ (store output text : List ℕ) where
-  run-long : isTooLong text ≡ true → run noLimit store output text ≡ refusal store output TextTooLong 0
-  unfolding run
-  run-long e = rw (e, run)
-
-  run-read : isTooLong text ≡ false → storeSize ≤ length store → run noLimit store output text ≡ played noLimit store output (reading text)
-  unfolding run
-  run-read e h = rw (e, le-ltb (length store) storeSize h, run)
-
-  reading-long : isTooLong text ≡ true → reading text ≡ refused TextTooLong 0
-  unfolding reading
-  reading-long e = rw (e, reading)
-
   written-fits : (picks : ℕ) (bs : List ℕ) → length bs ≤ length output → Outputs bs output (written (cleared store) output picks bs)
   unfolding written
   written-fits picks bs h = rw (le-ltb (length output) (length bs) h, written) (refl, refl)
@@ -60,11 +50,12 @@ module _ (store output text : List ℕ) where
 
   run-prints : storeSize ≤ length store → longest ≤ length output → Outputs (printed text) output (run noLimit store output text)
   unfolding printedFor
-  run-prints h k = go (isTooLong text) refl
-    where
-      go : (b : Bool) → isTooLong text ≡ b → Outputs (printed text) output (run noLimit store output text)
-      go true e = rw (run-long e, reading-long e) (refl, refl)
-      go false e = rw (run-read e h) (played-prints (reading text) (λ p q. omega (arith, accepted-short text p q noLimit)))
+  run-prints h k =
+      ⊎-elim
+      (λ (l : textSize < length text). rw (run-long noLimit store output text l, reading-long text l) (refl, refl))
+      (λ (l : length text ≤ textSize). rw (run-read noLimit store output text l h)
+      (played-prints (reading text) (λ p q. omega (arith, accepted-short text p q noLimit))))
+      (order textSize (length text))
 
 module _ (store output text : List ℕ) (h : storeSize ≤ length store) (k : longest ≤ length output) (a : Answer) (left after : List ℕ)
     (e : record { answer = a; store = left; output = after } ≡ run noLimit store output text) where

@@ -8,7 +8,8 @@ use lib.ListN.{length, take, length-take}
 use lib.Seq.{take-all}
 use Rattle.runs.specs.Update.{order}
 use Rattle.plan.specs.Reading.{reading}
-use Rattle.tools.specs.Cut.{readSize, too-long}
+use Rattle.plan.specs.Lengths.{reading-long}
+use Rattle.tools.specs.Cut.{readSize}
 use Rattle.bench.specs.Answer.{printedFor, printed}
 
 pub cut-alike : (text : List ℕ) → printed (take readSize text) ≡ printed text
@@ -16,6 +17,6 @@ cut-alike text =
     ap printedFor
     (⊎-elim
     (λ (l : readSize < length text).
-    too-long (take readSize text) (omega (arith, length-take readSize text)) ∙ sym (too-long text (omega arith)))
+    reading-long (take readSize text) (omega (arith, length-take readSize text)) ∙ sym (reading-long text (omega arith)))
     (λ (l : length text ≤ readSize). ap reading (take-all readSize text l))
     (order readSize (length text)))

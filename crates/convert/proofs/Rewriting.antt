@@ -5,15 +5,14 @@ use mathlib.Core.List.{List, _++_}
 use native.Mathlib.Omega.{arith}
 use lib.ListN.{length, take, drop, length-append}
 use lib.Seq.{take-all, drop-at}
-use borrow.Author.Tests.{lt-ltb, le-ltb}
 use Rattle.refusals.specs.declared.Refusal.the-variants.{TextTooLong, OutputTooShort}
 use Rattle.text.specs.Text.{line}
 use Rattle.text.specs.Writing.{plain, fields, Wrote}
 use Rattle.text.specs.WritingLaws.{wrote-then, wrote-whole}
 use Rattle.plan.specs.declared.form.Form.{Form}
 use Rattle.tools.specs.declared.Answer.the-variants.{Writes, Refuses}
-use Rattle.tools.specs.Result.{planText, outcome, written}
-use Rattle.tools.specs.Written.{written-short, written-whole}
+use Rattle.tools.specs.Result.{result, planText, outcome, written}
+use Rattle.tools.specs.Written.{text-long, text-whole, written-short, written-whole}
 use Rattle.convert.specs.Convert.{afterLine, workersFields}
 
 -- the text has its own W line and the rest, which is the part from there on
@@ -47,17 +46,15 @@ module _ (text : List ℕ) (workers : ℕ) (own : Form) (e : line (workersFields
 
     pub too-long : 65536 < n + length part → outcome (Refuses TextTooLong 0) output ≡ written output (planText (line fs ++ rest))
     unfolding written
-    too-long l = rw (lt-ltb 65536 (length (line fs ++ rest)) (omega (arith, length-is)), written)
+    too-long l = sym (ap (written output) (text-long (line fs ++ rest) (omega (arith, length-is))))
 
     module _ (short : n + length part ≤ 65536) where
-      is-text : (length (line fs ++ rest)) ≤ 65536
-      is-text = omega (arith, length-is)
+      is-text : written output (planText (line fs ++ rest)) ≡ written output (result (line fs ++ rest))
+      is-text = ap (written output) (text-whole (line fs ++ rest) (omega (arith, length-is)))
 
       pub too-short : length output < n + length part
           → outcome (Refuses OutputTooShort 0) output ≡ written output (planText (line fs ++ rest))
-      too-short l =
-          rw (le-ltb 65536 (length (line fs ++ rest)) is-text)
-          (sym (written-short output (line fs ++ rest) (omega (arith, length-is))))
+      too-short l = sym (is-text ∙ written-short output (line fs ++ rest) (omega (arith, length-is)))
 
       pub whole : n + length part ≤ length output → {next end : ℕ} {mid after : List ℕ} → Wrote output 0 (fields fs) next mid
           → Wrote mid next (plain part) end after
@@ -66,5 +63,5 @@ module _ (text : List ℕ) (workers : ℕ) (own : Form) (e : line (workersFields
           let enough : length (line fs ++ rest) ≤ length output = omega (arith, length-is) in
           let wrote : Wrote output 0 (plain (line fs ++ rest)) _ after =
           wrote-then first (ap (λ (l : List ℕ). line fs ++ l) (sym part-is)) later in
-          rw (le-ltb 65536 (length (line fs ++ rest)) is-text)
-          ((λ i. outcome (Writes (length-is i)) (wrote-whole wrote enough i)) ∙ sym (written-whole output (line fs ++ rest) enough))
+          (λ i. outcome (Writes (length-is i)) (wrote-whole wrote enough i))
+          ∙ sym (is-text ∙ written-whole output (line fs ++ rest) enough)

@@ -6,7 +6,7 @@ use mathlib.Core.List.{List, _++_}
 use native.Mathlib.Omega.{arith}
 use lib.Dec.{eqb}
 use lib.ListN.{length, length-append}
-use borrow.Author.Tests.{eqb-true, le-leb, le-ltb, ltb-false}
+use borrow.Author.Tests.{eqb-true, le-leb, ltb-false}
 use Rattle.refusals.specs.declared.Refusal.the-variants.{OtherSizes}
 use Rattle.runs.specs.Tests.{ways, both-left, both-right}
 use Rattle.runs.specs.Update.{clash}
@@ -20,14 +20,12 @@ use Rattle.plan.specs.Line.{sizesInRange}
 use Rattle.plan.specs.Reading.{Reading, accepted, refused, isTooLong, reading}
 use Rattle.plan.specs.Accepted.{WellFormed, accepted-well-formed, accepted-length}
 use Rattle.tools.specs.Result.{Result, result, refusal, ofPlan, planText}
+use Rattle.tools.specs.Written.{text-whole}
 use Rattle.convert.specs.Convert.{afterLine, workersFields, rewritten, spelledOut, hasFirstSizes}
 use Rattle.convert.specs.Convert.{inSecond, inFirst, toSecond, toFirst}
 use Rattle.convert.specs.Reread.{withForm, own-line, reread, after-rewritten}
 
 -- ---- a plan's text as a result
-
-text-result : (bs : List ℕ) → length bs ≤ 65536 → planText bs ≡ result bs
-text-result bs short = simp (le-ltb 65536 (length bs) short)
 
 result-text : (bs moved : List ℕ) → planText bs ≡ result moved → (moved ≡ bs) × (length moved ≤ 65536)
 result-text bs moved e =
@@ -51,14 +49,20 @@ spelled-sizes p f = go (p .form) (f .slots-enough) (f .slots-few) (f .capacity-s
     go (Second slots capacity) enough few some low =
         simp (le-leb 1 slots (omega (arith, f .workers-some)), le-leb slots 64 few, le-leb 1 capacity some, le-leb capacity 16 low)
 
-spelled-slots : (form : Form) → slotsOf (spelledOut form) ≡ slotsOf form
-spelled-slots First = refl
-spelled-slots (Second slots capacity) = refl
+-- spelled out, a form means the same
+pub spelled-alike : (form : Form) → (slotsOf (spelledOut form) ≡ slotsOf form) × (capacityOf (spelledOut form) ≡ capacityOf form)
+spelled-alike First = (refl, refl)
+spelled-alike (Second slots capacity) = (refl, refl)
 
 -- the sizes that the first form means
+pub are-first : (form : Form) → hasFirstSizes form ≡ true → (slotsOf form ≡ 64) × (capacityOf form ≡ 8)
+are-first form e = (
+  eqb-true (slotsOf form) 64 (both-left (eqb (slotsOf form) 64) (eqb (capacityOf form) 8) e),
+  eqb-true (capacityOf form) 8 (both-right (eqb (slotsOf form) 64) (eqb (capacityOf form) 8) e),
+)
+
 pub first-sizes : (slots capacity : ℕ) → hasFirstSizes (Second slots capacity) ≡ true → Second slots capacity ≡ Second 64 8
-first-sizes slots capacity e =
-    rw (eqb-true slots 64 (both-left (eqb slots 64) (eqb capacity 8) e), eqb-true capacity 8 (both-right (eqb slots 64) (eqb capacity 8) e))
+first-sizes slots capacity e = let (s, c) = are-first (Second slots capacity) e in rw (s, c)
 
 -- they have five bytes
 five : (n : ℕ) (rest : List ℕ) → length (line (workersFields n (Second 64 8)) ++ rest) ≡ length (line (workersFields n First) ++ rest) + 5
@@ -100,7 +104,7 @@ module _ (text : List ℕ) (p : Plan) (e : reading text ≡ accepted p) where
   text-again : (form : Form) → p .form ≡ form → planText (rewritten form p text) ≡ result text
   text-again form own =
       ap (λ (f : Form). planText (rewritten f p text)) (sym own) ∙ ap planText (own-line text p e)
-      ∙ text-result text (accepted-length text p e)
+      ∙ text-whole text (accepted-length text p e)
 
   -- ---- a plan already in the wanted form comes out unchanged
 
@@ -118,7 +122,7 @@ module _ (text : List ℕ) (p : Plan) (e : reading text ≡ accepted p) where
       let (is, short) = second-result moved r in
       let formed = accepted-well-formed text p e in
       ap reading is
-      ∙ reread text p e (spelledOut (p .form)) (spelled-sizes p formed) (omega (arith, spelled-slots (p .form), formed .slots-enough))
+      ∙ reread text p e (spelledOut (p .form)) (spelled-sizes p formed) (omega (arith, spelled-alike (p .form) .0, formed .slots-enough))
       (rw is at short)
 
   pub first-means : (moved : List ℕ) → toFirst text ≡ result moved → reading moved ≡ accepted (withForm First p)
@@ -128,13 +132,7 @@ module _ (text : List ℕ) (p : Plan) (e : reading text ≡ accepted p) where
 
   -- what is taken back had the sizes that the first form means
   pub first-had : (moved : List ℕ) → toFirst text ≡ result moved → (slotsOf (p .form) ≡ 64) × (capacityOf (p .form) ≡ 8)
-  first-had moved r =
-      let sizes = first-result moved r .0 in
-      let slots = eqb (slotsOf (p .form)) 64 in
-      let capacity = eqb (capacityOf (p .form)) 8 in (
-        eqb-true (slotsOf (p .form)) 64 (both-left slots capacity sizes),
-        eqb-true (capacityOf (p .form)) 8 (both-right slots capacity sizes),
-      )
+  first-had moved r = are-first (p .form) (first-result moved r .0)
 
   -- with its own W line put back into a text that has another one
   again : (own other : Form) → p .form ≡ own → (moved : List ℕ) → moved ≡ rewritten other p text

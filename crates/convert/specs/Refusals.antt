@@ -7,34 +7,31 @@ use mathlib.Core.Logic.{_⊎_, inl, inr, ⊎-elim, _↔_}
 use native.Mathlib.Omega.{arith}
 use lib.Dec.{eqb}
 use lib.ListN.{length}
-use borrow.Author.Tests.{ltb-true, lt-ltb, eq-eqb, eqb-true}
+use borrow.Author.Tests.{ltb-true, eq-eqb}
 use Rattle.refusals.specs.declared.Refusal.{Refusal}
 use Rattle.refusals.specs.declared.Refusal.the-variants.{TextTooLong, OutputTooShort, TooFewSlots, OtherSizes}
 use Rattle.refusals.specs.Number.{number}
-use Rattle.runs.specs.Tests.{ways, both-left, both-right}
+use Rattle.runs.specs.Tests.{ways}
 use Rattle.runs.specs.Update.{order, clash}
 use Rattle.plan.specs.declared.form.Form.{Form}
 use Rattle.plan.specs.declared.form.Form.the-variants.{First, Second}
 use Rattle.plan.specs.Plan.{slotsOf, capacityOf, Plan}
 use Rattle.plan.specs.Reading.{Reading, accepted, refused, isTooLong, reading}
+use Rattle.plan.specs.Lengths.{reading-long}
 use Rattle.plan.specs.Accepted.{accepted-length}
 use Rattle.plan.specs.Refused.{ByAuthor, refused-by}
 use Rattle.tools.specs.declared.Answer.the-variants.{Writes, Refuses}
-use Rattle.tools.specs.Cut.{too-long}
 use Rattle.tools.specs.Result.{Result, result, refusal, ofPlan, planText, Outcome, written}
-use Rattle.tools.specs.Written.{written-short, written-whole}
+use Rattle.tools.specs.Written.{text-long, written-short, written-whole}
 use Rattle.convert.specs.Convert.{rewritten, spelledOut, hasFirstSizes, inSecond, inFirst, toSecond, toFirst}
 use Rattle.convert.specs.Reread.{own-line}
-use Rattle.convert.specs.Moved.{second-is, first-sizes, second-stays, spelled-length, unspelled-length}
+use Rattle.convert.specs.Moved.{second-is, are-first, first-sizes, second-stays, spelled-length, unspelled-length}
 
 -- ---- where a refusal comes from
 
 -- a plan's text is refused where it is too long, and only with 6
 text-refusal : (bs : List ℕ) (r : Refusal) (n : ℕ) → planText bs ≡ refusal r n → (r ≡ TextTooLong) × (n ≡ 0) × (65536 < length bs)
 text-refusal bs r n e = ways (isTooLong bs) (λ l. (cc, cc, ltb-true 65536 (length bs) l)) (λ l. clash (cc))
-
-long-text : (bs : List ℕ) → 65536 < length bs → planText bs ≡ refusal TextTooLong 0
-long-text bs l = simp (lt-ltb 65536 (length bs) l)
 
 -- a refusal is the reader's, or is made of a plan
 made : {C : Type 0} (make : Plan → Result) (x : Reading) (r : Refusal) (n : ℕ) → ofPlan make x ≡ refusal r n
@@ -111,11 +108,11 @@ module _ (text : List ℕ) where
 
   second-unread : 65536 < length text → toSecond text ≡ refusal TextTooLong 0
   unfolding toSecond
-  second-unread l = ap (ofPlan (inSecond text)) (too-long text l)
+  second-unread l = ap (ofPlan (inSecond text)) (reading-long text l)
 
   first-unread : 65536 < length text → toFirst text ≡ refusal TextTooLong 0
   unfolding toFirst
-  first-unread l = ap (ofPlan (inFirst text)) (too-long text l)
+  first-unread l = ap (ofPlan (inFirst text)) (reading-long text l)
 
   first-apart : (p : Plan) → reading text ≡ accepted p → hasFirstSizes (p .form) ≡ false → toFirst text ≡ refusal OtherSizes 1
   unfolding toFirst
@@ -126,13 +123,7 @@ not-both form apart (slots, capacity) =
     let is : hasFirstSizes form ≡ true = simp (eq-eqb (slotsOf form) 64 slots, eq-eqb (capacityOf form) 8 capacity) in clash (cc)
 
 apart : (form : Form) → ((slotsOf form ≡ 64) × (capacityOf form ≡ 8) → ⊥) → hasFirstSizes form ≡ false
-apart form other =
-    ways (hasFirstSizes form)
-    (λ e. absurd (other (
-      eqb-true (slotsOf form) 64 (both-left (eqb (slotsOf form) 64) (eqb (capacityOf form) 8) e),
-      eqb-true (capacityOf form) 8 (both-right (eqb (slotsOf form) 64) (eqb (capacityOf form) 8) e),
-    )))
-    (λ e. e)
+apart form other = ways (hasFirstSizes form) (λ e. absurd (other (are-first form e))) (λ e. e)
 
 module _ (text : List ℕ) (n : ℕ) where
   -- ---- 6, line 0: the text is too long, or it is once its sizes are spelled out
@@ -146,7 +137,7 @@ module _ (text : List ℕ) (n : ℕ) where
         (λ (h : (p : Plan) × (reading text ≡ accepted p) × (p .form ≡ First) × (65536 < length text + 5)).
         let (p, e, own, long) = h in
         second-is text p e ∙ rw (ap spelledOut own)
-        (long-text (rewritten (Second 64 8) p text) (omega (arith, spelled-length text p e own)) ∙ rw line))
+        (text-long (rewritten (Second 64 8) p text) (omega (arith, spelled-length text p e own)) ∙ rw line))
         why,
   )
 

@@ -7,7 +7,7 @@ use mathlib.Core.Option.{Option, none, some}
 use native.Mathlib.Omega.{arith}
 use lib.Dec.{eqb, leb}
 use lib.ListN.{length}
-use borrow.Author.Tests.{leb-true, le-leb, le-ltb, ne-eqb}
+use borrow.Author.Tests.{leb-true, le-leb, ne-eqb}
 use Rattle.refusals.specs.declared.Refusal.{Refusal}
 use Rattle.runs.specs.Every.{every}
 use Rattle.runs.specs.Tests.{ways, both-left, both-right}
@@ -21,6 +21,7 @@ use Rattle.plan.specs.Plan.{Task, Order, picks, rounds, seeded, slotsOf, Plan, 
 use Rattle.plan.specs.Line.{Line, workersLine, taskLine, picksLine, roundsLine, seededLine}
 use Rattle.plan.specs.Line.{sizesInRange, inForm, lineBy, lineOfFields, lineOf}
 use Rattle.plan.specs.Reading.{Reading, accepted, refused, firstRefusal, readLine, readLines, isTooLong, reading}
+use Rattle.plan.specs.Lengths.{reading-short}
 use Rattle.plan.specs.Accepted.{granted}
 use Rattle.convert.specs.Convert.{afterLine, workersFields, rewritten}
 use Rattle.convert.specs.FirstLine.{isFieldByte, Whole, line-splits, after-line, line-before, parts-after}
@@ -188,10 +189,6 @@ another-read : (n : ℕ) (form : Form) → within 1 32 n ≡ true → sizesInRan
 unfolding firstRefusal
 another-read n form few sizes slots next = simp (few, sizes, le-leb n (slotsOf form) slots)
 
-short-reading : (text : List ℕ) → length text ≤ 65536 → reading text ≡ readLines emptyPlan 1 (split lineFeed text)
-unfolding reading
-short-reading text short = simp (le-ltb 65536 (length text) short)
-
 module _ (text : List ℕ) (p : Plan) (e : reading text ≡ accepted p) where
   -- a text has the W line of its plan
   pub own-line : rewritten (p .form) p text ≡ text
@@ -213,7 +210,7 @@ module _ (text : List ℕ) (p : Plan) (e : reading text ≡ accepted p) where
       let (part, splits, fields) = another-splits (p .workers) (afterLine text) form in
       let after = parts-after text (b .part) (b .next) (b .parts) (b .splits) in
       let next : Plan → Reading = λ q. readLines q 2 (b .next ∷ b .parts) in
-      short-reading (rewritten form p text) short
+      reading-short (rewritten form p text) short
       ∙ ap (readLines emptyPlan 1) (splits ∙ ap (λ (parts : List (List ℕ)). part ∷ parts) after)
       ∙ ap (λ (l : Option Line). readLine 1 l next) (ap (lineOfFields emptyPlan) fields ∙ another-line (p .workers) form)
       ∙ another-read (p .workers) form (b .few) sizes slots next

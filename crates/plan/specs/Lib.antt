@@ -1,6 +1,7 @@
 pub mod Plan
 pub mod Line
 pub mod Reading
+pub mod Lengths
 pub mod Orders
 pub mod Accepted
 pub mod Refused

@@ -7,7 +7,7 @@ use mathlib.Core.Option.{Option, none, some}
 use native.Mathlib.Omega.{arith}
 use native.Mathlib.Numerals.{add-one}
 use lib.ListN.{length, drop, length-append, length-drop, drop-of-length-le}
-use borrow.Author.Tests.{lt-ltb, le-ltb, eq-eqb, ne-eqb}
+use borrow.Author.Tests.{eq-eqb, ne-eqb}
 use Rattle.refusals.specs.declared.Refusal.{Refusal}
 use Rattle.refusals.specs.declared.Refusal.the-variants.{Malformed, Misplaced, TextTooLong}
 use Rattle.runs.specs.Update.{clash}
@@ -21,6 +21,7 @@ use Rattle.plan.specs.Plan.{Access, Order, Plan, emptyPlan, withWorkers, withTa
 use Rattle.plan.specs.Line as plans
 use Rattle.plan.specs.Line.{'T', access, accessOf, atStart, isLabel, withCost, lineBy, lineOfFields, taskLine}
 use Rattle.plan.specs.Reading.{Reading, accepted, refused, firstRefusal, readLine, readLines, reading}
+use Rattle.plan.specs.Lengths.{reading-long, reading-short}
 use Rattle.plan.specs.PassFields.{bit, accessBy, asAccess}
 use Rattle.kept.specs.Layout as layout
 use Rattle.kept.specs.Tasks.{Placed, rowOf, rowsOf, Labelled, KeepsTasks}
@@ -475,14 +476,10 @@ module _ {text : List ℕ} {before : Lent} {s : Sofar} {n begin : ℕ} {mid : Le
 
 -- ---- the end of the text, or a refusal
 
-not-too-long : (text : List ℕ) → length text ≤ 65536 → readLines emptyPlan 1 (split lineFeed text) ≡ reading text
-unfolding reading
-not-too-long text h = simp (le-ltb 65536 (length text) h)
-
 module _ {text : List ℕ} {before : Lent} {s : Sofar} {n at : ℕ} {after : Lent} (g : AtLine text before s n at after)
     (short : length text ≤ 65536) where
   reads-as : comes (g .p) n text at ≡ reading text
-  reads-as = g .so ∙ not-too-long text short
+  reads-as = g .so ∙ sym (reading-short text short)
 
   pub gives-refused : (f : Refusal) → comes (g .p) n text at ≡ refused f n → {r : ReadPlan} → r ≡ noPlan f n
       → Gives text before after r (reading text)
@@ -519,8 +516,7 @@ module _ {text : List ℕ} {before : Lent} {s : Sofar} {n at : ℕ} {after : Len
 -- a text that is too long
 pub gives-too-long : (text : List ℕ) (l : Lent) {r : ReadPlan} → 65536 < length text → r ≡ noPlan TextTooLong 0
     → Gives text l l r (reading text)
-unfolding reading
-gives-too-long text l h e = simp (lt-ltb 65536 (length text) h) (e, ([], refl), ([], refl))
+gives-too-long text l h e = rw (reading-long text h) (e, ([], refl), ([], refl))
 
 pub gives-outlined : (text : List ℕ) (before after : Lent) (r : ReadPlan) (x : Reading) → Gives text before after r x → r ≡ outlined x
 gives-outlined text before after r (accepted p) g =

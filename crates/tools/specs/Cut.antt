@@ -6,27 +6,22 @@ use mathlib.Core.List.{List}
 use native.Mathlib.Omega.{arith}
 use lib.ListN.{length, take, length-take}
 use lib.Seq.{take-all}
-use borrow.Author.Tests.{lt-ltb}
 use Rattle.runs.specs.Update.{order}
-use Rattle.refusals.specs.declared.Refusal.the-variants.{TextTooLong}
 use Rattle.plan.specs.Plan.{Plan}
-use Rattle.plan.specs.Reading.{refused, reading}
+use Rattle.plan.specs.Reading.{reading}
+use Rattle.plan.specs.Lengths.{reading-long}
 use Rattle.tools.specs.Result.{Result, ofPlan}
 
 -- how many bytes it reads at the most
 abbrev pub readSize : ℕ
 readSize = 65537
 
-pub too-long : (text : List ℕ) → 65536 < length text → reading text ≡ refused TextTooLong 0
-unfolding reading
-too-long text l = rw (lt-ltb 65536 (length text) l, reading)
-
 pub cut-alike : (make : List ℕ → Plan → Result) (text : List ℕ)
     → ofPlan (make (take readSize text)) (reading (take readSize text)) ≡ ofPlan (make text) (reading text)
 cut-alike make text =
     ⊎-elim
     (λ (l : readSize < length text).
-    ap (ofPlan (make (take readSize text))) (too-long (take readSize text) (omega (arith, length-take readSize text)))
-    ∙ sym (ap (ofPlan (make text)) (too-long text (omega arith))))
+    ap (ofPlan (make (take readSize text))) (reading-long (take readSize text) (omega (arith, length-take readSize text)))
+    ∙ sym (ap (ofPlan (make text)) (reading-long text (omega arith))))
     (λ (l : length text ≤ readSize). ap (λ (t : List ℕ). ofPlan (make t) (reading t)) (take-all readSize text l))
     (order readSize (length text))

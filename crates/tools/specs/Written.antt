@@ -1,12 +1,19 @@
--- What is answered and left in the output, by whether it is long enough for the result.
+-- By the lengths: whether a plan's text is a result, and what is answered and left in an output.
 use Prim.Native.Nat.{ℕ, _≤_, _<_}
 use mathlib.Core.Path.{_≡_, refl}
 use mathlib.Core.List.{List, [], _∷_, _++_}
 use lib.ListN.{length, drop}
 use borrow.Author.Tests.{lt-ltb, le-ltb}
-use Rattle.refusals.specs.declared.Refusal.the-variants.{OutputTooShort}
+use Rattle.refusals.specs.declared.Refusal.the-variants.{TextTooLong, OutputTooShort}
 use Rattle.tools.specs.declared.Answer.the-variants.{Writes, Refuses}
-use Rattle.tools.specs.Result.{result, outcome, written}
+use Rattle.tools.specs.Result.{result, refusal, planText, outcome, written}
+
+module _ (bs : List ℕ) where
+  pub text-long : 65536 < length bs → planText bs ≡ refusal TextTooLong 0
+  text-long l = simp (lt-ltb 65536 (length bs) l)
+
+  pub text-whole : length bs ≤ 65536 → planText bs ≡ result bs
+  text-whole l = simp (le-ltb 65536 (length bs) l)
 
 module _ (output bs : List ℕ) where
   pub written-short : length output < length bs → written output (result bs) ≡ outcome (Refuses OutputTooShort 0) output

@@ -1,17 +1,17 @@
 -- `run` meets its contract.
 use native.Mathlib.Omega.{arith}
-use mathlib.Core.Path.{_∙_}
+use mathlib.Core.Path.{sym, _∙_}
 use Rattle.bench.specs.Told.{and-told}
-use Rattle.bench.proofs.Running.{run-long, run-small, run-read}
+use Rattle.bench.specs.Tested.{run-long, run-small, run-read}
 use borrow.Author.Needs.{needs}
 use Rattle.bench.proofs.run.Statement.{statement}
 use Rattle.bench.proofs.run.Tie as tie
 
 returns : tie.Need-returns
-returns c = and-told _ _ _ _ _ (run-long _ _ _ _ (omega arith))
+returns c = and-told _ _ _ _ _ (sym (run-long _ _ _ _ (omega arith)))
 
 returns-2 : tie.Need-returns-2
-returns-2 c = and-told _ _ _ _ _ (run-small _ _ _ _ (omega arith) (omega arith))
+returns-2 c = and-told _ _ _ _ _ (sym (run-small _ _ _ _ (omega arith) (omega arith)))
 
 slice-aggregate-run-with : tie.Need-slice-aggregate-run-with
 slice-aggregate-run-with c = search needs
@@ -27,7 +27,7 @@ same-length-2 c = search needs
 
 returns-3 : tie.Need-returns-3
 returns-3 c =
-    and-told _ _ _ _ _ (c .before .before .before .before .before .run-with .ensures ∙ run-read _ _ _ _ (omega arith) (omega arith))
+    and-told _ _ _ _ _ (c .before .before .before .before .before .run-with .ensures ∙ sym (run-read _ _ _ _ (omega arith) (omega arith)))
 
 slice-aggregate-run-with-2 : tie.Need-slice-aggregate-run-with-2
 slice-aggregate-run-with-2 c = search needs
@@ -43,7 +43,7 @@ same-length-4 c = search needs
 
 returns-4 : tie.Need-returns-4
 returns-4 c =
-    and-told _ _ _ _ _ (c .before .before .before .before .before .run-with2 .ensures ∙ run-read _ _ _ _ (omega arith) (omega arith))
+    and-told _ _ _ _ _ (c .before .before .before .before .before .run-with2 .ensures ∙ sym (run-read _ _ _ _ (omega arith) (omega arith)))
 
 pub run-spec : {M : Type 1} → statement M
 run-spec =
