@@ -52,6 +52,8 @@ enum salfunye_refusal {
 struct salfunye_checked {
     uint64_t number; /* of enum salfunye_refusal */
     uint64_t line;   /* 0 where the text is accepted or the refusal is not the plan's */
+    uint64_t looks;  /* looks at bytes of the text: its length where it is accepted,
+                      * else the bytes of its lines up to the refused one; 0 with 6 */
 };
 
 struct salfunye_ran {
@@ -62,7 +64,9 @@ struct salfunye_ran {
 };
 
 /*
- * Checks a plan text of text_length bytes: 0, 1 to 6 or 9, with the line.
+ * Checks a plan text of text_length bytes: 0, 1 to 6 or 9, with the line, and how
+ * often it looked at a byte of the text. A refused line is looked at to its end,
+ * its line feed too if it has one, and no byte behind it.
  */
 struct salfunye_checked salfunye_check(const uint8_t *text, size_t text_length);
 

@@ -40,6 +40,18 @@ static void *taken(size_t size) {
     return room;
 }
 
+/* Checks a text, which stays as it is. */
+static struct salfunye_checked check(const char *text, size_t size) {
+    uint8_t *plan = taken(size);
+    memcpy(plan, text, size);
+
+    struct salfunye_checked checked = salfunye_check(plan, size);
+
+    EXPECT(memcmp(plan, text, size) == 0);
+    free(plan);
+    return checked;
+}
+
 /* Runs a text on used buffers of these lengths, and looks at all that is left. */
 static struct salfunye_ran run(const char *text, size_t size, uint64_t limit, size_t store_length, size_t output_length,
                                const char *expected) {
@@ -67,14 +79,20 @@ static struct salfunye_ran run(const char *text, size_t size, uint64_t limit, si
 
 static void bench(void) {
     size_t size = strlen(listing), length = strlen(report);
-    struct salfunye_checked checked = salfunye_check((const uint8_t *)listing, size);
-    EXPECT(checked.number == SALFUNYE_ACCEPTED && checked.line == 0);
-    checked = salfunye_check((const uint8_t *)"W\t1\nT\ta\t0\tr5\tr5\n", 17);
-    EXPECT(checked.number == SALFUNYE_ADDRESS_TWICE && checked.line == 2);
-    checked = salfunye_check((const uint8_t *)"", 0);
-    EXPECT(checked.number == SALFUNYE_MISPLACED && checked.line == 1);
-    checked = salfunye_check((const uint8_t *)few_slots, strlen(few_slots));
-    EXPECT(checked.number == SALFUNYE_TOO_FEW_SLOTS && checked.line == 1);
+    struct salfunye_checked checked = check(listing, size);
+    EXPECT(checked.number == SALFUNYE_ACCEPTED && checked.line == 0 && checked.looks == size);
+    checked = check("W\t1\nT\ta\t0\tr5\tr5\n", 16);
+    EXPECT(checked.number == SALFUNYE_ADDRESS_TWICE && checked.line == 2 && checked.looks == 16);
+    checked = check("W\t1\nT\ta\t0\tr5\tr5\nR\t1\n", 20);
+    EXPECT(checked.number == SALFUNYE_ADDRESS_TWICE && checked.line == 2 && checked.looks == 16);
+    checked = check("W\t1\n\nR\t1\n", 9);
+    EXPECT(checked.number == SALFUNYE_MALFORMED && checked.line == 2 && checked.looks == 5);
+    checked = check(listing, size - 1);
+    EXPECT(checked.number == SALFUNYE_MALFORMED && checked.line == 6 && checked.looks == size - 1);
+    checked = check("", 0);
+    EXPECT(checked.number == SALFUNYE_MISPLACED && checked.line == 1 && checked.looks == 0);
+    checked = check(few_slots, strlen(few_slots));
+    EXPECT(checked.number == SALFUNYE_TOO_FEW_SLOTS && checked.line == 1 && checked.looks == 8);
     EXPECT(SALFUNYE_TOO_FEW_SLOTS == 9);
 
     struct salfunye_ran ran = run(listing, size, UINT64_MAX, SALFUNYE_STORE_SIZE, length, report);
@@ -96,6 +114,10 @@ static void bench(void) {
 
     char *large = taken(SALFUNYE_TEXT_SIZE + 1);
     memset(large, 'W', SALFUNYE_TEXT_SIZE + 1);
+    checked = check(large, SALFUNYE_TEXT_SIZE + 1);
+    EXPECT(checked.number == SALFUNYE_TEXT_TOO_LONG && checked.line == 0 && checked.looks == 0);
+    checked = check(large, SALFUNYE_TEXT_SIZE);
+    EXPECT(checked.number == SALFUNYE_MALFORMED && checked.line == 1 && checked.looks == SALFUNYE_TEXT_SIZE);
     ran = run(large, SALFUNYE_TEXT_SIZE + 1, 0, 0, 0, NULL);
     EXPECT(ran.number == SALFUNYE_TEXT_TOO_LONG && ran.line == 0);
     ran = run(large, SALFUNYE_TEXT_SIZE, 0, SALFUNYE_STORE_SIZE, 0, NULL);

@@ -1,7 +1,8 @@
 //! Links the static libraries that `rt staticlib NAME` writes, or those in the
 //! folder STATICLIB. The gate makes those of the crates whose names end in `_c`.
 //! A folder STATICLIB may be that of an older build, without those of LATER: what
-//! calls none of their functions links all the same.
+//! calls none of their functions links all the same. The check of a build that gives
+//! no looks must not be called: its answer is shorter.
 
 use std::{
     env,

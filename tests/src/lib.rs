@@ -4,6 +4,7 @@
 
 pub mod convert;
 pub mod lock;
+pub mod looks;
 pub mod machine;
 pub mod order;
 pub mod plan;

@@ -1,4 +1,4 @@
-//! The report's bytes.
+//! The bytes of a report, and of the lines that programs print instead.
 
 use std::fmt::Display;
 
@@ -46,6 +46,13 @@ pub fn report(text: &[u8], plan: &Plan, machine: &Machine) -> Vec<u8> {
 pub fn refusal_line(refusal: Refusal) -> Vec<u8> {
     let mut out = Vec::new();
     line(&mut out, &[&"X", &refusal.number, &refusal.line]);
+    out
+}
+
+/// The line that the check's program prints for a plan that is accepted.
+pub fn accepted_line(looks: usize) -> Vec<u8> {
+    let mut out = Vec::new();
+    line(&mut out, &[&"A", &looks]);
     out
 }
 

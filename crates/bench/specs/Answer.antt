@@ -8,14 +8,14 @@ use Rattle.refusals.specs.declared.Refusal.the-variants.{TextTooLong, StoreTooS
 use Rattle.text.specs.Text.{bytes, decimal, line}
 use Rattle.plan.specs.Reading.{Reading, accepted, refused, reading, isTooLong}
 use Rattle.refusals.specs.Number.{number}
-use Rattle.reader.specs.declared.Checked.{Checked}
+use Rattle.reader.specs.declared.CheckedText.{CheckedText}
 use Rattle.reader.specs.Verdict.{verdict}
 use Rattle.orders.specs.Reached.{reached}
 use Rattle.play.specs.Outcome.{Outcome, reportOf, refusal, written}
 
 -- the answer of a check
-abbrev pub check : List ℕ → Checked
-check text = verdict (reading text)
+abbrev pub check : List ℕ → CheckedText
+check text = verdict text
 
 abbrev pub textSize : ℕ
 textSize = 65536

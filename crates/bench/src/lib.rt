@@ -5,13 +5,14 @@ ghost use mathlib.Core.List.{_++_};
 ghost use Prim.Native.Nat.{_*_, _≤_};
 ghost use lib.ListN.{length, drop, replicate};
 ghost use Rattle.plan.specs.Reading.{reading};
-ghost use Rattle.reader.specs.Verdict.{told as toldCheck, toldOf as toldReading};
+ghost use Rattle.reader.specs.Verdict.{told as toldCheck, toldOf as toldText};
 ghost use Rattle.bench.specs.Answer.{textSize, storeSize, check as checks, played, run as runs};
 ghost use Rattle.bench.specs.Told.{told, toldOf};
 use kept::layout;
 use play::Answer;
 use play::run_plan;
 use reader::Checked;
+use reader::CheckedText;
 use refusals::Refusal;
 
 const TEXT_SIZE: usize = 65536;
@@ -27,9 +28,9 @@ const FEW_LINES: usize = 1024;
 const MANY_LINES: usize = 32768;
 
 // Checks a plan text.
-pub fn check(text: &[u8]) -> Checked
+pub fn check(text: &[u8]) -> CheckedText
     ensures answer { λ r. ⌜ r ≡ checks (now (text .entry)) ⌝ }
-    ensures told { λ r. ⌜ toldCheck r ≡ toldReading (reading (now (text .entry))) ⌝ }
+    ensures told { λ r. ⌜ toldCheck r ≡ toldText (now (text .entry)) ⌝ }
 {
     reader::check(text)
 }

@@ -6,14 +6,15 @@ use play::Answer;
 use reader::Checked;
 use refusals::number_of;
 
-// The refusal's number, or 0 for a text that is accepted, and its line.
+// The refusal's number, or 0 for a text that is accepted, its line, and the number of looks at bytes of the text.
 #[repr(C)]
 pub struct CheckedC {
     pub number: u64,
     pub line: u64,
+    pub looks: u64,
 }
 
-// The same of a run; then the picks taken and the report's length, which are 0 in a refusal.
+// Number and line of a run; then the picks taken and the report's length, which are 0 in a refusal.
 #[repr(C)]
 pub struct RanC {
     pub number: u64,
@@ -27,12 +28,19 @@ pub struct RanC {
 pub extern "C" fn salfunye_check(text: &[u8]) -> CheckedC
     ensures { λ r. ⌜ r ≡ checkedNumbers (check (now (text .entry))) ⌝ }
 {
-    let checked = bench::check(text);
+    let answer = bench::check(text);
+    let checked = answer.checked;
+    let looks = answer.looks;
     match checked {
-        Checked::Accepted => CheckedC { number: 0, line: 0 },
+        Checked::Accepted => CheckedC {
+            number: 0,
+            line: 0,
+            looks,
+        },
         Checked::Refused(refusal, line) => CheckedC {
             number: number_of(refusal),
             line,
+            looks,
         },
     }
 }

@@ -21,12 +21,12 @@ use Rattle.tools.specs.Result.{Result, ofPlan, planText, Outcome, outcome, writ
 use Rattle.convert.specs.Convert.{afterLine, workersFields, spelledOut, hasFirstSizes, inSecond, inFirst, toSecond, toFirst}
 use Rattle.convert.specs.Reread.{own-line}
 
-module _ (text : List ℕ) (r : ReadPlan) (is : r ≡ outlined (reading text)) where
+module _ (text : List ℕ) (r : ReadPlan) (is : r ≡ outlined text (reading text)) where
   -- a plan that is refused
   outlined-refused : (x : Refusal) (n : ℕ) → r .checked ≡ Refused x n → reading text ≡ refused x n
   outlined-refused x n e = go (reading text) is
     where
-      go : (y : Reading) → r ≡ outlined y → y ≡ refused x n
+      go : (y : Reading) → r ≡ outlined text y → y ≡ refused x n
       go (accepted p) q = let w : Accepted ≡ Refused x n = sym (ap (λ (z : ReadPlan). z .checked) q) ∙ e in clash (cc)
       go (refused y k) q = let w : Refused y k ≡ Refused x n = sym (ap (λ (z : ReadPlan). z .checked) q) ∙ e in cc
 
@@ -50,7 +50,7 @@ module _ (text : List ℕ) (r : ReadPlan) (is : r ≡ outlined (reading text)) w
     outlined-accepted : (p : Plan) × (reading text ≡ accepted p) × (r .workers ≡ p .workers) × (r .form ≡ p .form)
     outlined-accepted = go (reading text) refl is
       where
-        go : (y : Reading) → reading text ≡ y → r ≡ outlined y
+        go : (y : Reading) → reading text ≡ y → r ≡ outlined text y
             → (p : Plan) × (reading text ≡ accepted p) × (r .workers ≡ p .workers) × (r .form ≡ p .form)
         go (accepted p) e q = (p, e, ap (λ (z : ReadPlan). z .workers) q, ap (λ (z : ReadPlan). z .form) q)
         go (refused y k) e q =

@@ -15,14 +15,14 @@ use Rattle.text.specs.declared.read.Number.{Number}
 use Rattle.text.specs.declared.read.Number.the-variants as numbers
 use Rattle.runs.specs.Tests.{ways}
 use Rattle.text.specs.Text.{numberOf}
-use Rattle.text.specs.Fields.{Cut, endless, cut, fieldOf, answer, asNumber, clipped, Fields}
+use Rattle.text.specs.Fields.{Cut, endless, cut, fieldOf, answer, asNumber, shape, clipped, Fields}
 use Rattle.text.specs.FieldLaws.{fields-none, fields-more, field-bytes}
 use Rattle.plan.specs.declared.field.Label.{Label}
 use Rattle.plan.specs.declared.field.Label.the-variants as labels
 use Rattle.plan.specs.Plan.{Task, Plan}
 use Rattle.plan.specs.Line as plans
 use Rattle.plan.specs.Line.{atStart, hasOrders, isLabel, labelAndCost, taskLine}
-use Rattle.plan.specs.PassFields.{labelBy, asLabel}
+use Rattle.plan.specs.PassFields.{labelBy, asLabel, labelShape}
 use Rattle.kept.specs.Tasks.{accessNumbers}
 use Rattle.lines.specs.declared.line.Fault.{Fault}
 use Rattle.lines.specs.declared.line.Kind.the-variants as kinds
@@ -62,10 +62,10 @@ pub record Named (text : List ℕ) (at len next : ℕ) (more : Bool) : Type 0 wh
   pub stands : take (length label) (drop at text) ≡ label
   pub fields : Fields text at (label ∷ []) next more
 
-module _ (text : List ℕ) (at : ℕ) (in-text : at ≤ length text) (l : Label) (e : l ≡ asLabel at (fieldOf (drop at text))) where
+module _ (text : List ℕ) (at : ℕ) (in-text : at ≤ length text) (l : Label) (e : labelShape l ≡ asLabel at (fieldOf (drop at text))) where
   pub label-told : {len next : ℕ} {m more : Bool} → l ≡ labels.Is len next m → m ≡ more → Named text at len next more
   unfolding answer
-  label-told {len} {next} {m} {more} is goes-on = by (fieldOf (drop at text)) refl (cc)
+  label-told {len} {next} {m} {more} is goes-on = by (fieldOf (drop at text)) refl (rw goes-on at (rw is at e))
     where
       says : (x : List ℕ) (y : Bool) (rest : List ℕ) → fieldOf (drop at text) ≡ cut x y rest → (b : Bool) → isLabel x ≡ b
           → labels.Is len next more ≡ labelBy b (length x) (at + (length x + 1)) y → Named text at len next more
@@ -85,7 +85,7 @@ module _ (text : List ℕ) (at : ℕ) (in-text : at ≤ length text) (l : Label)
       by endless q e = clash (cc)
       by (cut x y rest) q e = says x y rest q (isLabel x) refl e
 
-  label-untold : l ≡ labels.Malformed → (x : List ℕ) (more : Bool) (rest : List ℕ) → fieldOf (drop at text) ≡ cut x more rest
+  label-untold : labelShape l ≡ labels.Malformed → (x : List ℕ) (more : Bool) (rest : List ℕ) → fieldOf (drop at text) ≡ cut x more rest
       → isLabel x ≡ false
   unfolding answer
   label-untold is x more rest q = by (isLabel x) (rw q at (sym is ∙ e))
@@ -104,22 +104,23 @@ module _ (make : Task → plans.Line) (x : List ℕ) where
   cost-none : (y : List ℕ) → numberOf y ≡ none → (gs : List (List ℕ)) → labelAndCost make (x ∷ y ∷ gs) ≡ none
   cost-none y e gs = rw e (ways (isLabel x) (λ q. rw q) (λ q. rw q))
 
-module _ (text : List ℕ) (at : ℕ) (in-text : at ≤ length text) {p : Plan} {row : List ℕ} {r : Line} (wrong : r ≡ wrongLine) where
-  pub head-unlabelled : (l : Label) → l ≡ asLabel at (fieldOf (drop at text)) → l ≡ labels.Malformed → TaskHead text at p row r
+module _ (text : List ℕ) (at : ℕ) (in-text : at ≤ length text) {p : Plan} {row : List ℕ} {r : Line} {more : Bool}
+    (wrong : r ≡ wrongLine more) where
+  pub head-unlabelled : (l : Label) → labelShape l ≡ asLabel at (fieldOf (drop at text)) → labelShape l ≡ labels.Malformed → TaskHead text at p row r
   head-unlabelled l e is =
-      malformed wrong
+      malformed more wrong
       (formless-next (labelAndCost (taskLine p)) text at (fields-none text at in-text)
-      (λ x more rest q. label-none (taskLine p) x (label-untold text at in-text l e is x more rest q)))
+      (λ x m rest q. label-none (taskLine p) x (label-untold text at in-text l e is x m rest q)))
 
   pub head-ends : {len next : ℕ} → Named text at len next false → TaskHead text at p row r
-  head-ends t = malformed wrong (rw (t .fields .line))
+  head-ends t = malformed more wrong (rw (t .fields .line))
 
-  pub head-costless : {len then : ℕ} (t : Named text at len then true) (n : Number) → n ≡ asNumber then (fieldOf (drop then text))
-      → n ≡ numbers.Malformed → TaskHead text at p row r
+  pub head-costless : {len then : ℕ} (t : Named text at len then true) (n : Number) → shape n ≡ asNumber then (fieldOf (drop then text))
+      → shape n ≡ numbers.Malformed → TaskHead text at p row r
   head-costless t n e is =
-      malformed wrong
+      malformed more wrong
       (formless-next (labelAndCost (taskLine p)) text at (t .fields)
-      (λ y more rest q. cost-none (taskLine p) (t .label) y (number-untold (t .fields) n e is y more rest q)))
+      (λ y m rest q. cost-none (taskLine p) (t .label) y (number-untold (t .fields) n e is y m rest q)))
 
 -- ---- a line that is
 

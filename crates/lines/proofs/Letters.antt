@@ -37,8 +37,8 @@ module _ (text : List ℕ) (at letter : ℕ) (here : getD text at NONE ≡ lette
 pub task-line : (text : List ℕ) (at : ℕ) → getD text at NONE ≡ 'T' → getD text (at + 1) NONE ≡ tab
     → {p : Plan} {row : List ℕ} {r : Line} → TaskHead text (at + 2) p row r → LineAt text at p row r
 unfolding lineOfFields lineBy
-task-line text at here end {p} (TaskHead.malformed wrong h) =
-    whole (malformed wrong
+task-line text at here end {p} (TaskHead.malformed more wrong h) =
+    whole (malformed more wrong
     (formless-after (lettered text at 'T' here end (omega arith) (omega arith)) (labelAndCost (taskLine p)) (lineOfFields p) (λ f fs. refl)
     h))
 task-line text at here end (begun b) = task b (fields-after (lettered text at 'T' here end (omega arith) (omega arith)) (b .fields))
@@ -49,11 +49,11 @@ cond-none : (t : Bool) → cond {A = Option plans.Line} t none none ≡ none
 cond-none true = refl
 cond-none false = refl
 
-module _ (text : List ℕ) (at : ℕ) {p : Plan} {row : List ℕ} {r : Line} (wrong : r ≡ wrongLine) where
+module _ (text : List ℕ) (at : ℕ) {p : Plan} {row : List ℕ} {r : Line} {more : Bool} (wrong : r ≡ wrongLine more) where
   unlettered : ((letter : ℕ) (fs : List (List ℕ)) (rest : List ℕ) → firstLine (drop at text) ≡ first ((letter ∷ []) ∷ fs) rest
       → lineBy p letter fs ≡ none) → LineAt text at p row r
   unfolding lineOfFields
-  unlettered h = whole (malformed wrong (by (firstLine (drop at text)) refl))
+  unlettered h = whole (malformed more wrong (by (firstLine (drop at text)) refl))
     where
       by : (l : First) → firstLine (drop at text) ≡ l → Formless (lineOfFields p) l
       by unended e = tt

@@ -15,7 +15,8 @@ use Rattle.text.specs.declared.read.Number.the-variants as numbers
 use Rattle.text.specs.Text.{tab, within, numberOf}
 use Rattle.runs.specs.Tests.{ways, both-left, both-right, not-both}
 use Rattle.runs.specs.Update.{clash}
-use Rattle.text.specs.Fields.{Cut, endless, cut, fieldOf, answer, asNumber, numberBy, clipped, fitsIn}
+use Rattle.text.specs.LineEnds.{Reaches, reaches-on}
+use Rattle.text.specs.Fields.{Cut, endless, cut, fieldOf, answer, asNumber, shape, numberBy, clipped, fitsIn}
 use Rattle.text.specs.Fields.{First, unended, first, behind, firstLine, goesOn, Fields}
 use Rattle.text.specs.FieldLaws.{fields-none, fields-more, fields-endless, line-parts, some-part}
 use Rattle.plan.specs.declared.form.Form.{Form}
@@ -29,9 +30,11 @@ use Rattle.kept.specs.Layout as layout
 use Rattle.kept.specs.Orders.{codeOf, seedOf}
 use Rattle.lines.specs.declared.line.Fault.{Fault}
 use Rattle.lines.specs.declared.line.Fault.the-variants.{Nothing, Is}
+use Rattle.lines.specs.declared.line.Kind.{Kind}
+use Rattle.lines.specs.declared.line.Kind.the-variants as kinds
 use Rattle.lines.specs.declared.line.Sofar.{Sofar}
 use Rattle.lines.specs.declared.line.Line.{Line}
-use Rattle.lines.specs.Lines.{Sums, faultOf, faultIn, firstFault, wrongLine}
+use Rattle.lines.specs.Lines.{Sums, faultOf, faultIn, firstFault, wrongLine, LookedBy, LineLooked}
 use Rattle.lines.specs.Lines.{Formless, Makes, IsWhole, Whole, malformed, formed, readWorkers, Ordered, Coded, countLine}
 
 -- ---- fields after which a line is of no form, whatever follows
@@ -96,7 +99,7 @@ module _ {text : List ℕ} {at : ℕ} {x : List ℕ} {then : ℕ} (so : Fields t
         by (first fs rest) q h = same-form fs q ∙ h
 
     pub whole-after : {p : Plan} {r : Line} → Whole text then p form r → Whole text at p all r
-    whole-after (malformed wrong h) = malformed wrong (formless-after h)
+    whole-after (malformed more wrong h) = malformed more wrong (formless-after h)
     whole-after (formed f) =
         formed (record {
           l = f .l;
@@ -108,6 +111,23 @@ module _ {text : List ℕ} {at : ℕ} {x : List ℕ} {then : ℕ} (so : Fields t
           judged = f .judged;
           makes = f .makes;
         })
+
+-- ---- looks at the bytes of a line
+
+-- those of a line from a place in it on are those of the line, after the ones before the place
+pub line-looked : {text : List ℕ} {at next : ℕ} → Reaches text at true next → (r : Line) (n : ℕ) → LineLooked text next r n
+    → LineLooked text at r n
+line-looked {text} {at} {next} so r n h = by (r .kind) h
+  where
+    by : (k : Kind) → LookedBy k text next (r .more) (r .next) n → LookedBy k text at (r .more) (r .next) n
+    by kinds.Wrong h = reaches-on so h
+    by (kinds.Workers form) h = h
+    by kinds.Task h = h
+    by kinds.Order h = h
+
+-- a line that is left at a byte
+pub wrong-looked : {text : List ℕ} {at n : ℕ} {more : Bool} {r : Line} → r ≡ wrongLine more → Reaches text at more n → LineLooked text at r n
+wrong-looked e h = rw e h
 
 -- ---- a number that was read after fields of a line
 
@@ -121,11 +141,11 @@ pub record Told (text : List ℕ) (at : ℕ) (fs : List (List ℕ)) (value : ℕ
   pub fields : Fields text at (fs ++ digits ∷ []) next more
 
 module _ {text : List ℕ} {at : ℕ} {fs : List (List ℕ)} {then : ℕ} (so : Fields text at fs then true) (n : Number)
-    (e : n ≡ asNumber then (fieldOf (drop then text))) where
+    (e : shape n ≡ asNumber then (fieldOf (drop then text))) where
   pub number-told : {value : ℕ} {fits : Bool} {next : ℕ} {m more : Bool} → n ≡ numbers.Is value fits next m → m ≡ more
       → Told text at fs value fits next more
   unfolding answer
-  number-told {value} {fits} {next} {m} {more} is goes-on = by (fieldOf (drop then text)) refl (cc)
+  number-told {value} {fits} {next} {m} {more} is goes-on = by (fieldOf (drop then text)) refl (rw goes-on at (rw is at e))
     where
       says : (x : List ℕ) (y : Bool) (rest : List ℕ) → fieldOf (drop then text) ≡ cut x y rest → (v : Option ℕ) → numberOf x ≡ v
           → numbers.Is value fits next more ≡ numberBy v (then + (length x + 1)) y → Told text at fs value fits next more
@@ -147,7 +167,7 @@ module _ {text : List ℕ} {at : ℕ} {fs : List (List ℕ)} {then : ℕ} (so : 
       by endless q e = clash (cc)
       by (cut x y rest) q e = says x y rest q (numberOf x) refl e
 
-  pub number-untold : n ≡ numbers.Malformed → (x : List ℕ) (more : Bool) (rest : List ℕ) → fieldOf (drop then text) ≡ cut x more rest
+  pub number-untold : shape n ≡ numbers.Malformed → (x : List ℕ) (more : Bool) (rest : List ℕ) → fieldOf (drop then text) ≡ cut x more rest
       → numberOf x ≡ none
   unfolding answer
   number-untold is x more rest q = by (numberOf x) (rw q at (sym is ∙ e))
@@ -157,7 +177,7 @@ module _ {text : List ℕ} {at : ℕ} {fs : List (List ℕ)} {then : ℕ} (so : 
       by (some v) e = clash (cc)
 
 -- the first field of those that begin at a place
-pub first-told : (text : List ℕ) (at : ℕ) → at ≤ length text → (n : Number) → n ≡ asNumber at (fieldOf (drop at text))
+pub first-told : (text : List ℕ) (at : ℕ) → at ≤ length text → (n : Number) → shape n ≡ asNumber at (fieldOf (drop at text))
     → {value : ℕ} {fits : Bool} {next : ℕ} {m more : Bool} → n ≡ numbers.Is value fits next m → m ≡ more
     → Told text at [] value fits next more
 first-told text at h = number-told (fields-none text at h)
@@ -196,18 +216,18 @@ module _ (make : ℕ → Form → plans.Line) (x : List ℕ) where
   second-form v e y gs = rw (e, inForm)
 
 -- lines that are not of their form, by what was read of them
-module _ (text : List ℕ) (at : ℕ) (in-text : at ≤ length text) (p : Plan) {r : Line} (wrong : r ≡ wrongLine) where
+module _ (text : List ℕ) (at : ℕ) (in-text : at ≤ length text) (p : Plan) {r : Line} {more : Bool} (wrong : r ≡ wrongLine more) where
   so : Fields text at [] at true
   so = fields-none text at in-text
 
   abbrev Untold : (List (List ℕ) → Option plans.Line) → Type 0
-  Untold form = (n : Number) → n ≡ asNumber at (fieldOf (drop at text)) → n ≡ numbers.Malformed → Whole text at p form r
+  Untold form = (n : Number) → shape n ≡ asNumber at (fieldOf (drop at text)) → shape n ≡ numbers.Malformed → Whole text at p form r
 
   -- the first field is no number
   untold : (form : List (List ℕ) → Option plans.Line) → ((x : List ℕ) → numberOf x ≡ none → (gs : List (List ℕ)) → form (x ∷ gs) ≡ none)
       → Untold form
   untold form h n e is =
-      malformed wrong (formless-next form text at so (λ x more rest q. h x (number-untold so n e is x more rest q)))
+      malformed more wrong (formless-next form text at so (λ x m rest q. h x (number-untold so n e is x m rest q)))
 
   pub one-untold : (make : ℕ → plans.Line) → Untold (oneNumber make)
   one-untold make = untold (oneNumber make) (one-none make)
@@ -220,11 +240,11 @@ module _ (text : List ℕ) (at : ℕ) (in-text : at ≤ length text) (p : Plan) 
 
   pub one-goes-on : (make : ℕ → plans.Line) {value : ℕ} {fits : Bool} {next : ℕ} → Told text at [] value fits next true
       → Whole text at p (oneNumber make) r
-  one-goes-on make t = malformed wrong (formless-next (oneNumber make) text at (t .fields) (λ x more rest q gs. refl))
+  one-goes-on make t = malformed more wrong (formless-next (oneNumber make) text at (t .fields) (λ x m rest q gs. refl))
 
   pub two-ends : (make : ℕ → ℕ → plans.Line) {value : ℕ} {fits : Bool} {next : ℕ} → Told text at [] value fits next false
       → Whole text at p (twoNumbers make) r
-  two-ends make t = malformed wrong (rw (t .fields .line))
+  two-ends make t = malformed more wrong (rw (t .fields .line))
 
 -- ---- ranges of a number are those of what 64 bits hold of it
 

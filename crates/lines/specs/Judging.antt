@@ -9,6 +9,7 @@ use Rattle.lines.specs.Accesses.{taskFault}
 
 -- the fault of a line, by its kind: a task's is task number n
 abbrev pub faultBy : Kind → Fault → Accesses → ℕ → Fault
+faultBy kinds.Wrong fault a n = fault
 faultBy (kinds.Workers form) fault a n = fault
 faultBy kinds.Task fault a n = taskFault fault a n
 faultBy kinds.Order fault a n = fault

@@ -9,6 +9,7 @@ use lib.Dec.{leb}
 use Rattle.refusals.specs.declared.Refusal.{Refusal}
 use Rattle.refusals.specs.declared.Refusal.the-variants.{Malformed, OutOfRange, Misplaced}
 use Rattle.text.specs.Text.{within, numberOf}
+use Rattle.text.specs.LineEnds.{Reaches}
 use Rattle.text.specs.Fields.{First, unended, first, firstLine, Fields, clipped}
 use Rattle.plan.specs.declared.form.Form.{Form}
 use Rattle.plan.specs.declared.form.Form.the-variants.{Second}
@@ -52,9 +53,27 @@ pub both-wrong : firstFault true true ≡ Is Misplaced
 unfolding firstRefusal
 both-wrong = refl
 
--- a line that is not of its form
-abbrev pub wrongLine : Line
-wrongLine = record { kind = kinds.Order; first = 0; second = 0; fault = Is Malformed; next = 0; more = false }
+-- a line that is not of its form; whether it goes on at the byte that shows it
+abbrev pub wrongLine : Bool → Line
+wrongLine more = record { kind = kinds.Wrong; first = 0; second = 0; fault = Is Malformed; next = 0; more = more }
+
+abbrev pub isWrong : Kind → Bool
+isWrong kinds.Wrong = true
+isWrong (kinds.Workers form) = false
+isWrong kinds.Task = false
+isWrong kinds.Order = false
+
+-- ---- looks
+
+-- the reading of a line, from a place in it on, has come to n, and each byte on its way was looked at once
+abbrev pub LookedBy : Kind → List ℕ → ℕ → Bool → ℕ → ℕ → Type 0
+LookedBy kinds.Wrong text at more next n = Reaches text at more n
+LookedBy (kinds.Workers form) text at more next n = n ≡ next
+LookedBy kinds.Task text at more next n = n ≡ next
+LookedBy kinds.Order text at more next n = n ≡ next
+
+abbrev pub LineLooked : List ℕ → ℕ → Line → ℕ → Type 0
+LineLooked text at r n = LookedBy (r .kind) text at (r .more) (r .next) n
 
 -- ---- a line that is read whole: W, P, R, S
 
@@ -65,11 +84,13 @@ Formless form (first fs rest) = form fs ≡ none
 
 -- what a line without fault makes of p, with so few workers that the code of an order line fits; a task's is known once its accesses are
 abbrev pub Makes : Kind → ℕ → ℕ → Plan → Plan → Type 0
+Makes kinds.Wrong n second p q = ⊥
 Makes (kinds.Workers form) n second p q = (q ≡ withWorkers p n form) × (n ≤ 32)
 Makes kinds.Task n second p q = ⊥
 Makes kinds.Order code seed p q = (o : Order) × (q ≡ withOrder p o) × (codeOf o ≡ code) × (seedOf o ≡ seed)
 
 abbrev pub IsWhole : Kind → Type 0
+IsWhole kinds.Wrong = ⊥
 IsWhole (kinds.Workers form) = Unit {0}
 IsWhole kinds.Task = ⊥
 IsWhole kinds.Order = Unit {0}
@@ -86,7 +107,7 @@ pub record Formed (text : List ℕ) (at : ℕ) (p : Plan) (form : List (List ℕ
 
 -- the answer for fields that begin at a place, and are the line that `form` says
 pub data Whole (text : List ℕ) (at : ℕ) (p : Plan) (form : List (List ℕ) → Option plans.Line) (r : Line) : Type 0 where
-  malformed : r ≡ wrongLine → Formless form (firstLine (drop at text)) → Whole text at p form r
+  malformed : (more : Bool) → r ≡ wrongLine more → Formless form (firstLine (drop at text)) → Whole text at p form r
   formed : Formed text at p form r → Whole text at p form r
 
 -- the answer for a W line of a form, which ends before `next`
@@ -141,7 +162,7 @@ pub record Begun (text : List ℕ) (at : ℕ) (p : Plan) (row : List ℕ) (r : L
   pub kind : r .kind ≡ kinds.Task
 
 pub data TaskHead (text : List ℕ) (at : ℕ) (p : Plan) (row : List ℕ) (r : Line) : Type 0 where
-  malformed : r ≡ wrongLine → Formless (labelAndCost (taskLine p)) (firstLine (drop at text)) → TaskHead text at p row r
+  malformed : (more : Bool) → r ≡ wrongLine more → Formless (labelAndCost (taskLine p)) (firstLine (drop at text)) → TaskHead text at p row r
   begun : Begun text at p row r → TaskHead text at p row r
 
 -- ---- any line

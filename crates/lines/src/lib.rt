@@ -17,6 +17,7 @@ pub fn judge(line: Line, a: Accesses, tasks: usize) -> Fault
     let kind = line.kind;
     let fault = line.fault;
     match kind {
+        Kind::Wrong => fault,
         Kind::Workers(_) => fault,
         Kind::Task => judge_task(fault, a, tasks),
         Kind::Order => fault,

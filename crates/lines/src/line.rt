@@ -8,14 +8,16 @@ ghost use Rattle.text.specs.Fields.{clipped};
 ghost use Rattle.plan.specs.Plan.{Order, Plan};
 ghost use Rattle.plan.specs.Line.{oneNumber, twoNumbers, inForm, atStart, sizesInRange, workersLine, roundsLine, picksLine, seededLine};
 ghost use Rattle.kept.specs.Layout as lay;
-ghost use Rattle.lines.specs.Lines.{Sums, wrongLine, faultIn, firstFault, Whole, readWorkers, secondForm, Ordered, Coded, countLine};
-ghost use Rattle.lines.specs.Lines.{bareRow, TaskHead, LineAt};
+ghost use Rattle.lines.specs.declared.line.Kind.the-variants as kinds;
+ghost use Rattle.lines.specs.Lines.{Sums, wrongLine, isWrong, faultIn, firstFault, Whole, readWorkers, secondForm, Ordered, Coded, countLine};
+ghost use Rattle.lines.specs.Lines.{bareRow, TaskHead, LineAt, LineLooked};
 use kept::layout;
 use plan::field::Label;
 use plan::field::read_label;
 use plan::form::Form;
 use plan::form::slots_of;
 use refusals::Refusal;
+use text::read::LINE_FEED;
 use text::read::Number;
 use text::read::TAB;
 use text::read::look;
@@ -53,8 +55,9 @@ pub enum Fault {
     Is(Refusal),
 }
 
-// What a line says besides its fault.
+// What a line says besides its fault: nothing where it is not of its form.
 pub enum Kind {
+    Wrong,
     Workers(Form),
     Task,
     Order,
@@ -69,7 +72,8 @@ pub struct Sofar {
 }
 
 // A line as it was read: its fault, and the place after it. The numbers are the workers, or what is kept of an order line. Of a task's line
-// the accesses are still to be read: `more` says whether there is one, and the fault is that of its place and its cost.
+// the accesses are still to be read: `more` says whether there is one, and the fault is that of its place and its cost. A line that is not of
+// its form is left at the byte that shows it, without a place: `more` says whether the line goes on there.
 pub struct Line {
     pub kind: Kind,
     pub first: u64,
@@ -80,16 +84,29 @@ pub struct Line {
 }
 
 // A line that is not of its form.
-fn wrong() -> Line
-    ensures { λ r. ⌜ r ≡ wrongLine ⌝ }
+fn wrong(more: bool) -> Line
+    ensures { λ r. ⌜ r ≡ wrongLine more ⌝ }
 {
     Line {
-        kind: Kind::Order,
+        kind: Kind::Wrong,
         first: 0,
         second: 0,
         fault: Fault::Is(Refusal::Malformed),
         next: 0,
-        more: false,
+        more,
+    }
+}
+
+// Whether a line is not of its form.
+pub fn is_wrong(line: Line) -> bool
+    ensures { λ r. ⌜ r ≡ isWrong (line .kind) ⌝ }
+{
+    let kind = line.kind;
+    match kind {
+        Kind::Wrong => true,
+        Kind::Workers(_) => false,
+        Kind::Task => false,
+        Kind::Order => false,
     }
 }
 
@@ -156,7 +173,8 @@ fn workers_fault(workers: u64, form: Form, misplaced: bool) -> Fault
 
 // A W line that is of this form.
 fn form_line(workers: u64, form: Form, misplaced: bool, next: usize) -> Line
-    ensures { λ r. ⌜ ((p : Plan) → misplaced ≡ not (atStart p) → r ≡ readWorkers p workers form next) ⌝ }
+    ensures answer { λ r. ⌜ ((p : Plan) → misplaced ≡ not (atStart p) → r ≡ readWorkers p workers form next) ⌝ }
+    ensures ended { λ r. ⌜ (r .kind ≡ kinds.Workers form) × (r .next ≡ next) ⌝ }
 {
     Line {
         kind: Kind::Workers(form),
@@ -169,13 +187,22 @@ fn form_line(workers: u64, form: Form, misplaced: bool, next: usize) -> Line
 }
 
 // The queue capacity, which ends a W line.
-fn capacity_line(text: &[u8], at: usize, workers: u64, slots: u64, misplaced: bool) -> Line
-    requires { ⌜ at ≤ length (now text) ⌝ }
-    ensures { λ r. ⌜ ((p : Plan) (n m : ℕ) → misplaced ≡ not (atStart p) → workers ≡ clipped n → slots ≡ clipped m
+fn capacity_line(
+    text: &[u8],
+    at: usize,
+    workers: u64,
+    slots: u64,
+    misplaced: bool,
+    looks: &mut u64,
+) -> Line
+    requires { ⌜ (at ≤ length (now text)) × (now looks ≡ at) ⌝ }
+    ensures answer { λ r. ⌜ ((p : Plan) (n m : ℕ) → misplaced ≡ not (atStart p) → workers ≡ clipped n → slots ≡ clipped m
         → Whole (now (text .entry)) at p (oneNumber (secondForm p n m)) r) ⌝ }
+    ensures counted { λ r. ⌜ LineLooked (now (text .entry)) at r (now (looks .exit)) ⌝ }
 {
-    match read_number(text, at) {
-        Number::Malformed => wrong(),
+    match read_number(text, at, looks) {
+        Number::Malformed => wrong(true),
+        Number::MalformedAtEnd => wrong(false),
         Number::Is {
             value: capacity,
             fits: _,
@@ -183,7 +210,7 @@ fn capacity_line(text: &[u8], at: usize, workers: u64, slots: u64, misplaced: bo
             more,
         } => {
             if more {
-                return wrong();
+                return wrong(true);
             }
             form_line(workers, Form::Second { slots, capacity }, misplaced, next)
         }
@@ -191,13 +218,15 @@ fn capacity_line(text: &[u8], at: usize, workers: u64, slots: u64, misplaced: bo
 }
 
 // The slots, after the workers.
-fn slots_line(text: &[u8], at: usize, workers: u64, misplaced: bool) -> Line
-    requires { ⌜ at ≤ length (now text) ⌝ }
-    ensures { λ r. ⌜ ((p : Plan) (n : ℕ) → misplaced ≡ not (atStart p) → workers ≡ clipped n
+fn slots_line(text: &[u8], at: usize, workers: u64, misplaced: bool, looks: &mut u64) -> Line
+    requires { ⌜ (at ≤ length (now text)) × (now looks ≡ at) ⌝ }
+    ensures answer { λ r. ⌜ ((p : Plan) (n : ℕ) → misplaced ≡ not (atStart p) → workers ≡ clipped n
         → Whole (now (text .entry)) at p (twoNumbers (secondForm p n)) r) ⌝ }
+    ensures counted { λ r. ⌜ LineLooked (now (text .entry)) at r (now (looks .exit)) ⌝ }
 {
-    match read_number(text, at) {
-        Number::Malformed => wrong(),
+    match read_number(text, at, looks) {
+        Number::Malformed => wrong(true),
+        Number::MalformedAtEnd => wrong(false),
         Number::Is {
             value: slots,
             fits: _,
@@ -205,20 +234,22 @@ fn slots_line(text: &[u8], at: usize, workers: u64, misplaced: bool) -> Line
             more,
         } => {
             if !more {
-                return wrong();
+                return wrong(false);
             }
-            capacity_line(text, next, workers, slots, misplaced)
+            capacity_line(text, next, workers, slots, misplaced, looks)
         }
     }
 }
 
 // W: first, and once; a line that goes on after the workers is of the second form.
-fn workers_line(text: &[u8], at: usize, sofar: Sofar) -> Line
-    requires { ⌜ at ≤ length (now text) ⌝ }
-    ensures { λ r. ⌜ ((p : Plan) → Sums sofar p → Whole (now (text .entry)) at p (inForm (workersLine p)) r) ⌝ }
+fn workers_line(text: &[u8], at: usize, sofar: Sofar, looks: &mut u64) -> Line
+    requires { ⌜ (at ≤ length (now text)) × (now looks ≡ at) ⌝ }
+    ensures answer { λ r. ⌜ ((p : Plan) → Sums sofar p → Whole (now (text .entry)) at p (inForm (workersLine p)) r) ⌝ }
+    ensures counted { λ r. ⌜ LineLooked (now (text .entry)) at r (now (looks .exit)) ⌝ }
 {
-    match read_number(text, at) {
-        Number::Malformed => wrong(),
+    match read_number(text, at, looks) {
+        Number::Malformed => wrong(true),
+        Number::MalformedAtEnd => wrong(false),
         Number::Is {
             value: workers,
             fits: _,
@@ -227,7 +258,7 @@ fn workers_line(text: &[u8], at: usize, sofar: Sofar) -> Line
         } => {
             let misplaced = sofar.workers != 0;
             if more {
-                return slots_line(text, next, workers, misplaced);
+                return slots_line(text, next, workers, misplaced, looks);
             }
             form_line(workers, Form::First, misplaced, next)
         }
@@ -269,14 +300,17 @@ fn count_line(
     seed: u64,
     misplaced: bool,
     out: bool,
+    looks: &mut u64,
 ) -> Line
-    requires { ⌜ (at ≤ length (now text)) × (most ≤ 1000000) × (out ≡ false → who < lay.who) ⌝ }
-    ensures { λ r. ⌜ ((p : Plan) (inRange : Bool) (order : ℕ → Order) → misplaced ≡ atStart p → out ≡ not inRange
+    requires { ⌜ (at ≤ length (now text)) × (most ≤ 1000000) × (out ≡ false → who < lay.who) × (now looks ≡ at) ⌝ }
+    ensures answer { λ r. ⌜ ((p : Plan) (inRange : Bool) (order : ℕ → Order) → misplaced ≡ atStart p → out ≡ not inRange
         → (inRange ≡ true → Coded order who seed)
         → Whole (now (text .entry)) at p (oneNumber (countLine p inRange most order)) r) ⌝ }
+    ensures counted { λ r. ⌜ LineLooked (now (text .entry)) at r (now (looks .exit)) ⌝ }
 {
-    match read_number(text, at) {
-        Number::Malformed => wrong(),
+    match read_number(text, at, looks) {
+        Number::Malformed => wrong(true),
+        Number::MalformedAtEnd => wrong(false),
         Number::Is {
             value: n,
             fits: _,
@@ -284,7 +318,7 @@ fn count_line(
             more,
         } => {
             if more {
-                return wrong();
+                return wrong(true);
             }
             let any_out = either(out, outside(1, most, n));
             order_line(n, who, seed, misplaced, any_out, next)
@@ -293,21 +327,33 @@ fn count_line(
 }
 
 // R: rounds.
-fn rounds_line(text: &[u8], at: usize, sofar: Sofar) -> Line
-    requires { ⌜ at ≤ length (now text) ⌝ }
-    ensures { λ r. ⌜ ((p : Plan) → Sums sofar p → Whole (now (text .entry)) at p (oneNumber (roundsLine p)) r) ⌝ }
+fn rounds_line(text: &[u8], at: usize, sofar: Sofar, looks: &mut u64) -> Line
+    requires { ⌜ (at ≤ length (now text)) × (now looks ≡ at) ⌝ }
+    ensures answer { λ r. ⌜ ((p : Plan) → Sums sofar p → Whole (now (text .entry)) at p (oneNumber (roundsLine p)) r) ⌝ }
+    ensures counted { λ r. ⌜ LineLooked (now (text .entry)) at r (now (looks .exit)) ⌝ }
 {
     let misplaced = sofar.workers == 0;
-    count_line(text, at, MOST_ROUNDS, layout::IN_TURN, 0, misplaced, false)
+    count_line(
+        text,
+        at,
+        MOST_ROUNDS,
+        layout::IN_TURN,
+        0,
+        misplaced,
+        false,
+        looks,
+    )
 }
 
 // P: a worker, so many times.
-fn picks_line(text: &[u8], at: usize, sofar: Sofar) -> Line
-    requires { ⌜ (at ≤ length (now text)) × (sofar .workers ≤ 32) ⌝ }
-    ensures { λ r. ⌜ ((p : Plan) → Sums sofar p → Whole (now (text .entry)) at p (twoNumbers (picksLine p)) r) ⌝ }
+fn picks_line(text: &[u8], at: usize, sofar: Sofar, looks: &mut u64) -> Line
+    requires { ⌜ (at ≤ length (now text)) × (sofar .workers ≤ 32) × (now looks ≡ at) ⌝ }
+    ensures answer { λ r. ⌜ ((p : Plan) → Sums sofar p → Whole (now (text .entry)) at p (twoNumbers (picksLine p)) r) ⌝ }
+    ensures counted { λ r. ⌜ LineLooked (now (text .entry)) at r (now (looks .exit)) ⌝ }
 {
-    match read_number(text, at) {
-        Number::Malformed => wrong(),
+    match read_number(text, at, looks) {
+        Number::Malformed => wrong(true),
+        Number::MalformedAtEnd => wrong(false),
         Number::Is {
             value: worker,
             fits: _,
@@ -315,22 +361,24 @@ fn picks_line(text: &[u8], at: usize, sofar: Sofar) -> Line
             more,
         } => {
             if !more {
-                return wrong();
+                return wrong(false);
             }
             let misplaced = sofar.workers == 0;
             let out = sofar.workers <= worker;
-            count_line(text, next, MOST_PICKS, worker, 0, misplaced, out)
+            count_line(text, next, MOST_PICKS, worker, 0, misplaced, out, looks)
         }
     }
 }
 
 // S: a seed, and so many seeded picks.
-fn seeded_line(text: &[u8], at: usize, sofar: Sofar) -> Line
-    requires { ⌜ at ≤ length (now text) ⌝ }
-    ensures { λ r. ⌜ ((p : Plan) → Sums sofar p → Whole (now (text .entry)) at p (twoNumbers (seededLine p)) r) ⌝ }
+fn seeded_line(text: &[u8], at: usize, sofar: Sofar, looks: &mut u64) -> Line
+    requires { ⌜ (at ≤ length (now text)) × (now looks ≡ at) ⌝ }
+    ensures answer { λ r. ⌜ ((p : Plan) → Sums sofar p → Whole (now (text .entry)) at p (twoNumbers (seededLine p)) r) ⌝ }
+    ensures counted { λ r. ⌜ LineLooked (now (text .entry)) at r (now (looks .exit)) ⌝ }
 {
-    match read_number(text, at) {
-        Number::Malformed => wrong(),
+    match read_number(text, at, looks) {
+        Number::Malformed => wrong(true),
+        Number::MalformedAtEnd => wrong(false),
         Number::Is {
             value: seed,
             fits,
@@ -338,7 +386,7 @@ fn seeded_line(text: &[u8], at: usize, sofar: Sofar) -> Line
             more,
         } => {
             if !more {
-                return wrong();
+                return wrong(false);
             }
             let misplaced = sofar.workers == 0;
             count_line(
@@ -349,6 +397,7 @@ fn seeded_line(text: &[u8], at: usize, sofar: Sofar) -> Line
                 seed,
                 misplaced,
                 !fits,
+                looks,
             )
         }
     }
@@ -370,22 +419,25 @@ fn begin_row(row: &mut [u64], place: usize, size: usize, cost: u64)
 }
 
 // T: a label and a cost; its accesses follow.
-fn task_line(text: &[u8], at: usize, sofar: Sofar, row: &mut [u64]) -> Line
-    requires { ⌜ (at ≤ length (now text)) × (length (now row) ≡ lay.taskRow) ⌝ }
-    ensures { λ r. ⌜ ((p : Plan) → Sums sofar p → TaskHead (now (text .entry)) at p (now (row .exit)) r) ⌝ }
+fn task_line(text: &[u8], at: usize, sofar: Sofar, row: &mut [u64], looks: &mut u64) -> Line
+    requires { ⌜ (at ≤ length (now text)) × (length (now row) ≡ lay.taskRow) × (now looks ≡ at) ⌝ }
+    ensures answer { λ r. ⌜ ((p : Plan) → Sums sofar p → TaskHead (now (text .entry)) at p (now (row .exit)) r) ⌝ }
+    ensures counted { λ r. ⌜ LineLooked (now (text .entry)) at r (now (looks .exit)) ⌝ }
 {
-    match read_label(text, at) {
-        Label::Malformed => wrong(),
+    match read_label(text, at, looks) {
+        Label::Malformed => wrong(true),
+        Label::MalformedAtEnd => wrong(false),
         Label::Is {
             len,
             next: then,
             more: goes_on,
         } => {
             if !goes_on {
-                return wrong();
+                return wrong(false);
             }
-            match read_number(text, then) {
-                Number::Malformed => wrong(),
+            match read_number(text, then, looks) {
+                Number::Malformed => wrong(true),
+                Number::MalformedAtEnd => wrong(false),
                 Number::Is {
                     value: cost,
                     fits: _,
@@ -409,20 +461,25 @@ fn task_line(text: &[u8], at: usize, sofar: Sofar, row: &mut [u64]) -> Line
 }
 
 // The line at a place: a letter and a tab, and the fields of its kind.
-pub fn read_line(text: &[u8], at: usize, sofar: Sofar, row: &mut [u64]) -> Line
-    requires { ⌜ (at < length (now text)) × (length (now row) ≡ lay.taskRow) × (sofar .workers ≤ 32) ⌝ }
-    ensures { λ r. ⌜ ((p : Plan) → Sums sofar p → LineAt (now (text .entry)) at p (now (row .exit)) r) ⌝ }
+pub fn read_line(text: &[u8], at: usize, sofar: Sofar, row: &mut [u64], looks: &mut u64) -> Line
+    requires { ⌜ (at < length (now text)) × (length (now row) ≡ lay.taskRow) × (sofar .workers ≤ 32) × (now looks ≡ at) ⌝ }
+    ensures answer { λ r. ⌜ ((p : Plan) → Sums sofar p → LineAt (now (text .entry)) at p (now (row .exit)) r) ⌝ }
+    ensures counted { λ r. ⌜ LineLooked (now (text .entry)) at r (now (looks .exit)) ⌝ }
 {
-    let letter = look(text, at);
-    if look(text, at + 1) != TAB {
-        return wrong();
+    let letter = look(text, at, looks);
+    if letter == LINE_FEED {
+        return wrong(false);
+    }
+    let after = look(text, at + 1, looks);
+    if after != TAB {
+        return wrong(after != LINE_FEED);
     }
     match letter {
-        W => workers_line(text, at + 2, sofar),
-        T => task_line(text, at + 2, sofar, row),
-        P => picks_line(text, at + 2, sofar),
-        R => rounds_line(text, at + 2, sofar),
-        S => seeded_line(text, at + 2, sofar),
-        _ => wrong(),
+        W => workers_line(text, at + 2, sofar, looks),
+        T => task_line(text, at + 2, sofar, row, looks),
+        P => picks_line(text, at + 2, sofar, looks),
+        R => rounds_line(text, at + 2, sofar, looks),
+        S => seeded_line(text, at + 2, sofar, looks),
+        _ => wrong(true),
     }
 }

@@ -14,13 +14,17 @@ use Rattle.runs.specs.Every.{every}
 use Rattle.runs.specs.Update.{order, clash}
 use Rattle.runs.specs.Tests.{ways}
 use Rattle.text.specs.Text.{tab, lineFeed, within, numberOf}
-use Rattle.text.specs.Fields.{NONE, Cut, endless, cut, fieldOf, answer, numberBy, asNumber}
+use Rattle.text.specs.declared.read.Number.{Number}
+use Rattle.text.specs.declared.read.Number.the-variants as numbers
+use Rattle.text.specs.LineEnds.{NONE, afterLook, Reaches, reaches-on, reaches-feed, reaches-other, look-within}
+use Rattle.text.specs.Fields.{Cut, endless, cut, fieldOf, answer, numberBy, asNumber, shape, Looked}
 use Rattle.text.specs.FieldLaws.{byte-within, answer-tab, answer-line-feed, answer-on, answer-bad}
 use Rattle.plan.specs.declared.field.Label.{Label}
 use Rattle.plan.specs.declared.field.Label.the-variants as labels
 use Rattle.plan.specs.declared.field.Access.the-variants as accesses
 use Rattle.plan.specs.Line.{'r', 'w', isLabelByte, access, accessOf}
-use Rattle.plan.specs.PassFields.{labelBy, asLabel, bit, accessBy, asAccess, endLabel, addressed}
+use Rattle.plan.specs.PassFields.{labelBy, asLabel, labelShape, LabelLooked, bit, accessBy, asAccess, accessShape, AccessLooked}
+use Rattle.plan.specs.PassFields.{endLabel, addressed}
 
 -- ---- a label's byte, and another
 
@@ -89,12 +93,38 @@ label-within text at is =
     ⊎-elim (λ (w : at < length text). w) (λ (w : length text ≤ at). (let no : true ≡ false = sym (rw (List·getD-eq-default text NONE w) at is) in clash (cc)))
     (order at (length text))
 
+pub label-no-feed : (b : ℕ) → isLabelByte b ≡ true → b ≢ lineFeed
+label-no-feed b is e = let no : true ≡ false = sym (rw e at is) in clash (cc)
+
+-- the end of a label's field, whatever follows a malformed one
+end-shape : (len end next : ℕ) → labelShape (endLabel len end next)
+    ≡ cond (within 1 16 len)
+    (cond (eqb end tab) (labels.Is len next true) (cond (eqb end lineFeed) (labels.Is len next false) labels.Malformed)) labels.Malformed
+end-shape len end next =
+    ways (within 1 16 len)
+    (λ w. ways (eqb end tab) (λ e. simp (w, e)) (λ e. ways (eqb end lineFeed) (λ q. simp (w, e, q)) (λ q. simp (w, e, q))))
+    (λ w. ways (eqb end lineFeed) (λ q. simp (w, q)) (λ q. simp (w, q)))
+
+-- the bytes before it were looked at once, and so is the one at its end
+pub label-looked : {text : List ℕ} {from at : ℕ} → Reaches text from true at → (len : ℕ)
+    → LabelLooked text from (endLabel len (getD text at NONE) (at + 1)) (afterLook text at)
+label-looked {text} {from} {at} so len =
+    let b = getD text at NONE in
+    let inside : b < NONE → afterLook text at ≡ at + 1 = λ h. look-within text at (byte-within text at h) in
+    let goes-on : eqb b lineFeed ≡ false → Reaches text from true (afterLook text at) =
+    λ q. reaches-on so (reaches-other text at (so .within) (eqb-false b lineFeed q)) in
+    ways (within 1 16 len)
+    (λ w. ways (eqb b tab) (λ e. simp (w, e) (inside (omega (arith, eqb-true b tab e)))) (λ e.
+    ways (eqb b lineFeed) (λ q. simp (w, e, q) (inside (omega (arith, eqb-true b lineFeed q)))) (λ q. simp (w, e, q) (goes-on q))))
+    (λ w. ways (eqb b lineFeed)
+    (λ q. simp (w, q) (reaches-on so (reaches-feed text at (so .within) (eqb-true b lineFeed q)))) (λ q. simp (w, q) (goes-on q)))
+
 module _ (n : ℕ) (text : List ℕ) (at : ℕ) where
   pub label-end : isLabelByte (getD text at NONE) ≡ false
-      → endLabel n (getD text at NONE) (at + 1) ≡ lateLabel n at (fieldOf (drop at text))
+      → labelShape (endLabel n (getD text at NONE) (at + 1)) ≡ lateLabel n at (fieldOf (drop at text))
   label-end other =
       let b = getD text at NONE in
-      ways (eqb b tab)
+      end-shape n b (at + 1) ∙ ways (eqb b tab)
       (λ e. simp e (late-end n (at + 1) true ∙ answer-tab labels.Malformed (lateBy n) text at (eqb-true b tab e))) (λ e.
       ways (eqb b lineFeed)
       (λ q. simp (e, q) (late-end n (at + 1) false ∙ answer-line-feed labels.Malformed (lateBy n) text at (eqb-true b lineFeed q)))
@@ -108,6 +138,18 @@ module _ (n : ℕ) (text : List ℕ) (at : ℕ) where
       (label-within text at is) (lateBy (n + 1)) (late-more n (getD text at NONE) is)
 
 -- ---- accesses
+
+pub addressed-shape : (writes : ℕ) (n : Number) → accessShape (addressed writes n) ≡ addressed writes (shape n)
+addressed-shape writes numbers.Malformed = refl
+addressed-shape writes numbers.MalformedAtEnd = refl
+addressed-shape writes (numbers.Is value fits next more) = refl
+
+-- the byte before the address was looked at once, and so was the address
+pub addressed-looked : {text : List ℕ} {from at : ℕ} → Reaches text from true at → (writes : ℕ) (n : Number) (k : ℕ) → Looked text at n k
+    → AccessLooked text from (addressed writes n) k
+addressed-looked so writes numbers.Malformed k h = reaches-on so h
+addressed-looked so writes numbers.MalformedAtEnd k h = reaches-on so h
+addressed-looked so writes (numbers.Is value fits next more) k h = h
 
 access-by : (writes : Bool) (o : Option ℕ) (next : ℕ) (more : Bool)
     → addressed (bit writes) (numberBy o next more) ≡ accessBy (Option·map (access writes) o) next more

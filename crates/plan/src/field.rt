@@ -4,7 +4,8 @@ ghost use Prim.Native.Nat.{_≤_};
 ghost use lib.ListN.{length, drop};
 ghost use Rattle.text.specs.Fields.{fieldOf};
 ghost use Rattle.plan.specs.Line.{isLabelByte};
-ghost use Rattle.plan.specs.PassFields.{asLabel, asAccess, endLabel, addressed};
+ghost use Rattle.plan.specs.PassFields.{asLabel, labelShape, LabelLooked, asAccess, accessShape, AccessLooked};
+ghost use Rattle.plan.specs.PassFields.{malformedLabel, endLabel, addressed};
 use text::read::LINE_FEED;
 use text::read::Number;
 use text::read::TAB;
@@ -14,12 +15,14 @@ use text::read::read_number;
 // A label's field as it was read: its length.
 pub enum Label {
     Malformed,
+    MalformedAtEnd,
     Is { len: usize, next: usize, more: bool },
 }
 
 // An access's field as it was read: `writes` is 1 for a writer, else 0.
 pub enum Access {
     Malformed,
+    MalformedAtEnd,
     Is {
         writes: u64,
         address: u64,
@@ -47,15 +50,25 @@ fn is_label_byte(b: u64) -> bool
     }
 }
 
+// A label of a wrong length, which this byte shows.
+fn malformed_label(end: u64) -> Label
+    ensures { λ r. ⌜ r ≡ malformedLabel end ⌝ }
+{
+    if end == LINE_FEED {
+        return Label::MalformedAtEnd;
+    }
+    Label::Malformed
+}
+
 // The end of a label's field, at this byte.
 fn end_label(len: usize, end: u64, next: usize) -> Label
     ensures { λ r. ⌜ r ≡ endLabel len end next ⌝ }
 {
     if len < 1 {
-        return Label::Malformed;
+        return malformed_label(end);
     }
     if LABEL_SIZE < len {
-        return Label::Malformed;
+        return malformed_label(end);
     }
     if end == TAB {
         return Label::Is {
@@ -75,13 +88,14 @@ fn end_label(len: usize, end: u64, next: usize) -> Label
 }
 
 // A label: 1 to 16 letters, digits or hyphens.
-pub fn read_label(text: &[u8], from: usize) -> Label
-    requires { ⌜ from ≤ length (now text) ⌝ }
-    ensures { λ r. ⌜ r ≡ asLabel from (fieldOf (drop from (now (text .entry)))) ⌝ }
+pub fn read_label(text: &[u8], from: usize, looks: &mut u64) -> Label
+    requires { ⌜ (from ≤ length (now text)) × (now looks ≡ from) ⌝ }
+    ensures answer { λ r. ⌜ labelShape r ≡ asLabel from (fieldOf (drop from (now (text .entry)))) ⌝ }
+    ensures counted { λ r. ⌜ LabelLooked (now (text .entry)) from r (now (looks .exit)) ⌝ }
 {
     let mut at = from;
     loop {
-        let b = look(text, at);
+        let b = look(text, at, looks);
         if !is_label_byte(b) {
             return end_label(at - from, b, at + 1);
         }
@@ -95,6 +109,7 @@ fn with_address(writes: u64, address: Number) -> Access
 {
     match address {
         Number::Malformed => Access::Malformed,
+        Number::MalformedAtEnd => Access::MalformedAtEnd,
         Number::Is {
             value,
             fits: _,
@@ -110,16 +125,20 @@ fn with_address(writes: u64, address: Number) -> Access
 }
 
 // An access: r or w, then an address.
-pub fn read_access(text: &[u8], at: usize) -> Access
-    requires { ⌜ at ≤ length (now text) ⌝ }
-    ensures { λ r. ⌜ r ≡ asAccess at (fieldOf (drop at (now (text .entry)))) ⌝ }
+pub fn read_access(text: &[u8], at: usize, looks: &mut u64) -> Access
+    requires { ⌜ (at ≤ length (now text)) × (now looks ≡ at) ⌝ }
+    ensures answer { λ r. ⌜ accessShape r ≡ asAccess at (fieldOf (drop at (now (text .entry)))) ⌝ }
+    ensures counted { λ r. ⌜ AccessLooked (now (text .entry)) at r (now (looks .exit)) ⌝ }
 {
-    let b = look(text, at);
+    let b = look(text, at, looks);
     if b == READS {
-        return with_address(0, read_number(text, at + 1));
+        return with_address(0, read_number(text, at + 1, looks));
     }
     if b == WRITES {
-        return with_address(1, read_number(text, at + 1));
+        return with_address(1, read_number(text, at + 1, looks));
+    }
+    if b == LINE_FEED {
+        return Access::MalformedAtEnd;
     }
     Access::Malformed
 }

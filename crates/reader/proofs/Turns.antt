@@ -13,8 +13,9 @@ use Rattle.refusals.specs.declared.Refusal.the-variants.{Malformed, Misplaced, 
 use Rattle.runs.specs.Update.{clash}
 use Rattle.runs.specs.Stores.{drop-from}
 use Rattle.text.specs.Text.{lineFeed, split, allOf, numberOf}
+use Rattle.text.specs.LineEnds.{linesSize, lineEnd, Reaches, reaches-on, end-past, lines-more}
 use Rattle.text.specs.Fields.{Cut, endless, cut, fieldOf, answer, First, unended, first, firstLine, Fields, clipped}
-use Rattle.text.specs.FieldLaws.{some-part, field-length, fields-more, line-parts, line-unended}
+use Rattle.text.specs.FieldLaws.{some-part, field-length, fields-more, fields-reach, line-parts, line-unended}
 use Rattle.plan.specs.declared.field.Access.the-variants as accesses
 use Rattle.plan.specs.declared.form.Form.{Form}
 use Rattle.plan.specs.Plan.{Access, Order, Plan, emptyPlan, withWorkers, withTask, withOrder}
@@ -35,7 +36,7 @@ use Rattle.lines.specs.declared.line.Kind.the-variants as kinds
 use Rattle.lines.specs.declared.line.Line.{Line}
 use Rattle.lines.specs.declared.line.Sofar.{Sofar}
 use Rattle.lines.specs.Accesses.{withAccesses, Reads}
-use Rattle.lines.specs.Lines.{Sums, faultOf, faultIn, Formless, Makes, IsWhole, Formed, Whole, malformed, formed}
+use Rattle.lines.specs.Lines.{Sums, faultOf, faultIn, isWrong, LookedBy, LineLooked, Formless, Makes, IsWhole, Formed, malformed, formed}
 use Rattle.lines.specs.Lines.{bare, headFault, LineAt, whole, task}
 use Rattle.lines.specs.Judging.{faultBy, judged}
 use Rattle.reader.specs.Keeping.{Keeps}
@@ -117,16 +118,50 @@ pub record TaskRead (text : List ℕ) (begin : ℕ) (p : Plan) (line : Line) (at
 
 -- the line in hand is read up to a place: whole, or a task's
 pub data InLine (text : List ℕ) (begin : ℕ) (p : Plan) (line : Line) (at : ℕ) (more : Bool) (a : Accesses) (row : List ℕ) : Type 0 where
-  other : Whole text begin p (lineOfFields p) line → at ≡ line .next → more ≡ false → InLine text begin p line at more a row
+  other : Formed text begin p (lineOfFields p) line → at ≡ line .next → more ≡ false → InLine text begin p line at more a row
   tasks : TaskRead text begin p line at more a row → InLine text begin p line at more a row
+
+-- a line that is not of its form
+whole-right : (k : Kind) → IsWhole k → isWrong k ≡ false
+whole-right kinds.Wrong w = absurd w
+whole-right (kinds.Workers form) w = refl
+whole-right kinds.Task w = absurd w
+whole-right kinds.Order w = refl
+
+line-wrong : {text : List ℕ} {begin : ℕ} {p : Plan} {line : Line} {row : List ℕ} → LineAt text begin p row line → isWrong (line .kind) ≡ true
+    → Formless (lineOfFields p) (firstLine (drop begin text))
+line-wrong (whole (malformed more e f)) is = f
+line-wrong {line = line} (whole (formed f)) is = let no : false ≡ true = sym (whole-right (line .kind) (f .whole)) ∙ is in clash (cc)
+line-wrong (task b fields) is = let no : false ≡ true = rw (b .kind) at is in clash (cc)
+
+-- the looks at it lead to a place in it, and those at any other to the place after what is read of it
+module _ (text : List ℕ) (at : ℕ) (line : Line) (n : ℕ) (h : LineLooked text at line n) where
+  pub wrong-place : isWrong (line .kind) ≡ true → Reaches text at (line .more) n
+  wrong-place is = by (line .kind) is h
+    where
+      by : (k : Kind) → isWrong k ≡ true → LookedBy k text at (line .more) (line .next) n → Reaches text at (line .more) n
+      by kinds.Wrong e h = h
+      by (kinds.Workers form) e h = clash (cc)
+      by kinds.Task e h = clash (cc)
+      by kinds.Order e h = clash (cc)
+
+  pub line-place : isWrong (line .kind) ≡ false → n ≡ line .next
+  line-place is = by (line .kind) is h
+    where
+      by : (k : Kind) → isWrong k ≡ false → LookedBy k text at (line .more) (line .next) n → n ≡ line .next
+      by kinds.Wrong e h = clash (cc)
+      by (kinds.Workers form) e h = h
+      by kinds.Task e h = h
+      by kinds.Order e h = h
 
 -- none of its accesses is read yet
 line-begins : {text : List ℕ} {begin : ℕ} {p : Plan} {line : Line} {a : Accesses} {row : List ℕ} → LineAt text begin p row line
-    → ((t : Placed) → Reads t [] a (rowOf (withAccesses t []))) → InLine text begin p line (line .next) (line .more) a row
+    → isWrong (line .kind) ≡ false → ((t : Placed) → Reads t [] a (rowOf (withAccesses t [])))
+    → InLine text begin p line (line .next) (line .more) a row
 unfolding allOf
-line-begins (whole (malformed e f)) start = other (malformed e f) refl (ap (λ (l : Line). l .more) e)
-line-begins (whole (formed f)) start = other (formed f) refl (f .ended)
-line-begins {begin = begin} (task b fields) start =
+line-begins (whole (malformed more e f)) right start = let no : true ≡ false = rw e at right in clash (cc)
+line-begins (whole (formed f)) right start = other f refl (f .ended)
+line-begins {begin = begin} (task b fields) right start =
     tasks
     (record {
       label = b .label;
@@ -152,8 +187,7 @@ found l e = rw e at l
 -- it is in the text
 pub line-inside : {text : List ℕ} {begin : ℕ} {p : Plan} {line : Line} {at : ℕ} {more : Bool} {a : Accesses} {row : List ℕ}
     → InLine text begin p line at more a row → at ≤ length text
-line-inside (other (malformed e f) i m) = rw (i, e) (omega arith)
-line-inside (other (formed f) i m) = rw i (f .fields .within)
+line-inside (other f i m) = rw i (f .fields .within)
 line-inside (tasks t) = t .fields .within
 
 -- ---- one access more
@@ -256,6 +290,10 @@ module _ {text : List ℕ} {begin : ℕ} {p : Plan} {line : Line} {at : ℕ} {a 
         go endless q e = clash (cc)
         go (cut x m rest) q e = by x (accessOf x) m rest q refl e
 
+    -- it is read up to a place in it
+    pub so-far : Reaches text begin true at
+    so-far = fields-reach true (t .fields)
+
     -- a field that is no access
     pub access-wrong : accesses.Malformed ≡ asAccess at (fieldOf (drop at text)) → Formless (lineOfFields p) (firstLine (drop begin text))
     unfolding answer
@@ -289,11 +327,6 @@ record Right (text : List ℕ) (begin : ℕ) (p : Plan) (line : Line) (at : ℕ)
   pub judges : judged line a (length (p .tasks)) ≡ faultIn l
   pub adds : firstRefusal (l .asks) ≡ none → Adds text line row p (l .plan)
 
-data Ended (text : List ℕ) (begin : ℕ) (p : Plan) (line : Line) (at : ℕ) (a : Accesses) (row : List ℕ) : Type 0 where
-  wrong : judged line a (length (p .tasks)) ≡ Is Malformed → Formless (lineOfFields p) (firstLine (drop begin text))
-      → Ended text begin p line at a row
-  right : Right text begin p line at a row → Ended text begin p line at a row
-
 module _ {text : List ℕ} {begin : ℕ} {p : Plan} {line : Line} {at : ℕ} {a : Accesses} {row : List ℕ} where
   formed-ended : Formed text begin p (lineOfFields p) line → at ≡ line .next → Right text begin p line at a row
   formed-ended f e =
@@ -307,11 +340,13 @@ module _ {text : List ℕ} {begin : ℕ} {p : Plan} {line : Line} {at : ℕ} {a 
       }
     where
       fault-same : (k : Kind) → IsWhole k → faultBy k (line .fault) a (length (p .tasks)) ≡ line .fault
+      fault-same kinds.Wrong w = absurd w
       fault-same (kinds.Workers form) w = refl
       fault-same kinds.Task w = absurd w
       fault-same kinds.Order w = refl
 
       adds-as : (k : Kind) → line .kind ≡ k → Makes k (line .first) (line .second) p (f .l .plan) → Adds text line row p (f .l .plan)
+      adds-as kinds.Wrong e m = absurd m
       adds-as (kinds.Workers form) e (q, low) = adds-workers form e low q
       adds-as kinds.Task e m = absurd m
       adds-as kinds.Order e (o, q, code, seed) = adds-order e o code seed q
@@ -332,37 +367,41 @@ module _ {text : List ℕ} {begin : ℕ} {p : Plan} {line : Line} {at : ℕ} {a 
             (task-room p (t .label) (t .cost) (t .xs) (t .reads) good) refl;
       }
 
-  ended : InLine text begin p line at false a row → Ended text begin p line at a row
-  ended (other (malformed e f) i m) = wrong (rw e) f
-  ended (other (formed f) i m) = right (formed-ended f i)
-  ended (tasks t) = right (task-ended t)
+  ended : InLine text begin p line at false a row → Right text begin p line at a row
+  ended (other f i m) = formed-ended f i
+  ended (tasks t) = task-ended t
+
+  -- each byte of it stands before the place
+  pub ended-reach : InLine text begin p line at false a row → Reaches text begin false at
+  ended-reach so = fields-reach false (ended so .fields)
 
   module _ (n : ℕ) (so : InLine text begin p line at false a row) where
+    abbrev x : Right text begin p line at a row
+    x = ended so
+
     -- a line with a fault
-    pub line-refused : begin < length text → (r : Refusal) → judged line a (length (p .tasks)) ≡ Is r → comes p n text begin ≡ refused r n
-    line-refused h r e = go (ended so)
-      where
-        go : Ended text begin p line at a row → comes p n text begin ≡ refused r n
-        go (wrong w f) = let is : Malformed ≡ r = cc in rw is at (comes-formless p n text begin h f)
-        go (right x) = comes-refused p n text begin (x .l) (x .fs) at (x .form) (x .fields) r (sym (x .judges) ∙ e)
+    pub line-refused : (r : Refusal) → judged line a (length (p .tasks)) ≡ Is r → comes p n text begin ≡ refused r n
+    line-refused r e = comes-refused p n text begin (x .l) (x .fs) at (x .form) (x .fields) r (sym (x .judges) ∙ e)
 
     -- a line without fault: the plan with it
     line-passes : judged line a (length (p .tasks)) ≡ Nothing
         → (q : Plan) × (begin < at) × (at ≤ length text) × (comes p n text begin ≡ comes q (n + 1) text at) × Adds text line row p q
-    line-passes e = go (ended so)
-      where
-        go : Ended text begin p line at a row
-            → (q : Plan) × (begin < at) × (at ≤ length text) × (comes p n text begin ≡ comes q (n + 1) text at) × Adds text line row p q
-        go (wrong w f) = clash (cc)
-        go (right x) = (
-          x .l .plan,
-          line-forth p n text begin (x .l) (x .fs) at (x .form) (x .fields),
-          x .fields .within,
-          comes-on p n text begin (x .l) (x .fs) at (x .form) (x .fields) (sym (x .judges) ∙ e),
-          x .adds (refusal-none (firstRefusal (x .l .asks)) (sym (x .judges) ∙ e)),
-        )
+    line-passes e = (
+      x .l .plan,
+      line-forth p n text begin (x .l) (x .fs) at (x .form) (x .fields),
+      x .fields .within,
+      comes-on p n text begin (x .l) (x .fs) at (x .form) (x .fields) (sym (x .judges) ∙ e),
+      x .adds (refusal-none (firstRefusal (x .l .asks)) (sym (x .judges) ∙ e)),
+    )
 
 -- ---- the lines so far
+
+-- where line n ends the next one begins
+next-line : (text : List ℕ) (n begin at : ℕ) → linesSize n text ≡ lineEnd text begin → at ≡ lineEnd text begin
+    → linesSize (n + 1) text ≡ lineEnd text at
+next-line text n begin at e is =
+    let here : linesSize n text ≡ at = e ∙ sym is in
+    rw here at (lines-more n 1 text)
 
 -- a line begins at a place: the lines of p are before it, and are kept in what was lent
 pub record AtLine (text : List ℕ) (before : Lent) (s : Sofar) (n at : ℕ) (after : Lent) : Type 0 where
@@ -373,6 +412,7 @@ pub record AtLine (text : List ℕ) (before : Lent) (s : Sofar) (n at : ℕ) (af
   pub each : length (p .orders) ≤ at
   pub number : n ≤ at + 1
   pub inside : at ≤ length text
+  pub ends : linesSize n text ≡ lineEnd text at
   pub rows : KeepsTasks text (before .rows) (p .tasks) (after .rows)
   pub lines : KeepsOrders (before .lines) (p .orders) (after .lines)
   pub so : comes p n text at ≡ readLines emptyPlan 1 (split lineFeed text)
@@ -387,6 +427,7 @@ text-begins text l s h =
       each = omega arith;
       number = omega arith;
       inside = omega arith;
+      ends = omega arith;
       rows = no-tasks text (l .rows);
       lines = no-orders (l .lines);
       so = refl;
@@ -395,10 +436,16 @@ text-begins text l s h =
 module _ {text : List ℕ} {before : Lent} {s : Sofar} {n begin : ℕ} {mid : Lent} (g : AtLine text before s n begin mid) where
   -- the line that begins here is in hand, where what is read of it goes on from its first fields
   pub in-hand : {line : Line} {start : Accesses} {first-row : List ℕ} {at : ℕ} {more : Bool} {a : Accesses} {row : List ℕ}
-      → ((p : Plan) → Sums s p → LineAt text begin p first-row line) → ((t : Placed) → Reads t [] start (rowOf (withAccesses t [])))
+      → ((p : Plan) → Sums s p → LineAt text begin p first-row line) → isWrong (line .kind) ≡ false
+      → ((t : Placed) → Reads t [] start (rowOf (withAccesses t [])))
       → ((b : ℕ) (p : Plan) → InLine text b p line (line .next) (line .more) start first-row → InLine text b p line at more a row)
       → InLine text begin (g .p) line at more a row
-  in-hand read none-yet on = on begin (g .p) (line-begins (read (g .p) (g .sums)) none-yet)
+  in-hand read right none-yet on = on begin (g .p) (line-begins (read (g .p) (g .sums)) right none-yet)
+
+  -- it is not of its form
+  pub not-formed : {line : Line} {first-row : List ℕ} → ((p : Plan) → Sums s p → LineAt text begin p first-row line)
+      → isWrong (line .kind) ≡ true → begin < length text → comes (g .p) n text begin ≡ refused Malformed n
+  not-formed read is h = comes-formless (g .p) n text begin h (line-wrong (read (g .p) (g .sums)) is)
 
   -- q is kept, with one line more
   record Grown (q : Plan) (r : Sofar) (after : Lent) : Type 0 where
@@ -456,7 +503,7 @@ module _ {text : List ℕ} {before : Lent} {s : Sofar} {n begin : ℕ} {mid : Le
 
     pub line-kept : {at : ℕ} {a : Accesses} → InLine text begin (g .p) line at false a row → judged line a (s .tasks) ≡ Nothing
         → (begin < at) × AtLine text before r (n + 1) at after
-    line-kept l e =
+    line-kept {at} l e =
         let (q, forth, inside, on, adds) = line-passes n l (rw (g .sums .tasks) at e) in
         let h = grown adds in (
           forth,
@@ -468,6 +515,7 @@ module _ {text : List ℕ} {before : Lent} {s : Sofar} {n begin : ℕ} {mid : Le
             each = omega (arith, h .each, g .each);
             number = omega (arith, g .number);
             inside = inside;
+            ends = next-line text n begin at (g .ends) (ended-reach l .line);
             rows = h .rows;
             lines = h .lines;
             so = sym on ∙ g .so;
@@ -481,11 +529,11 @@ module _ {text : List ℕ} {before : Lent} {s : Sofar} {n at : ℕ} {after : Len
   reads-as : comes (g .p) n text at ≡ reading text
   reads-as = g .so ∙ sym (reading-short text short)
 
-  pub gives-refused : (f : Refusal) → comes (g .p) n text at ≡ refused f n → {r : ReadPlan} → r ≡ noPlan f n
+  pub gives-refused : (f : Refusal) → comes (g .p) n text at ≡ refused f n → {looks : ℕ} → looks ≡ lineEnd text at → {r : ReadPlan} → r ≡ noPlan f n looks
       → Gives text before after r (reading text)
-  gives-refused f e {r} q =
+  gives-refused f e seen {r} q =
       subst (Gives text before after r) (sym e ∙ reads-as)
-      (q, (rowsOf (g .rows .placed), g .rows .stores), (orderNumbers (g .p .orders), g .lines .stores))
+      (rw (seen ∙ sym (g .ends)) at q, (rowsOf (g .rows .placed), g .rows .stores), (orderNumbers (g .p .orders), g .lines .stores))
 
   -- all lines are read
   module _ (end : length text ≤ at) where
@@ -493,18 +541,23 @@ module _ {text : List ℕ} {before : Lent} {s : Sofar} {n at : ℕ} {after : Len
     unfolding readLines split
     comes-end = rw (drop-of-length-le text end)
 
-    pub gives-misplaced : s .workers ≡ 0 → {r : ReadPlan} → r ≡ noPlan Misplaced n → Gives text before after r (reading text)
-    gives-misplaced z = gives-refused Misplaced (comes-end ∙ rw (eq-eqb (g .p .workers) 0 (omega (arith, g .sums .workers))))
+    pub gives-misplaced : s .workers ≡ 0 → {looks : ℕ} → looks ≡ at → {r : ReadPlan} → r ≡ noPlan Misplaced n looks
+        → Gives text before after r (reading text)
+    gives-misplaced z seen =
+        gives-refused Misplaced (comes-end ∙ rw (eq-eqb (g .p .workers) 0 (omega (arith, g .sums .workers))))
+        (seen ∙ sym (end-past text at end))
 
-    pub gives-accepted : (s .workers ≡ 0 → ⊥)
+    pub gives-accepted : (s .workers ≡ 0 → ⊥) → (looks : ℕ) → looks ≡ at
         → Gives text before after
-        (record { checked = Accepted; workers = s .workers; form = s .form; tasks = s .tasks; orders = s .orders }) (reading text)
-    gives-accepted z =
+        (record { checked = Accepted; looks = looks; workers = s .workers; form = s .form; tasks = s .tasks; orders = s .orders })
+        (reading text)
+    gives-accepted z looks seen =
         let some-workers : comes (g .p) n text at ≡ accepted (g .p) =
         comes-end ∙ rw (ne-eqb (g .p .workers) 0 (λ e. z (g .sums .workers ∙ e))) in
         subst (Gives text before after _) (sym some-workers ∙ reads-as)
         (record {
           accepts = refl;
+          looks = omega (arith, seen, g .inside);
           workers = g .sums .workers;
           form = g .sums .form;
           tasks = g .sums .tasks;
@@ -514,14 +567,16 @@ module _ {text : List ℕ} {before : Lent} {s : Sofar} {n at : ℕ} {after : Len
         })
 
 -- a text that is too long
-pub gives-too-long : (text : List ℕ) (l : Lent) {r : ReadPlan} → 65536 < length text → r ≡ noPlan TextTooLong 0
+pub gives-too-long : (text : List ℕ) (l : Lent) {r : ReadPlan} → 65536 < length text → r ≡ noPlan TextTooLong 0 0
     → Gives text l l r (reading text)
+unfolding linesSize
 gives-too-long text l h e = rw (reading-long text h) (e, ([], refl), ([], refl))
 
-pub gives-outlined : (text : List ℕ) (before after : Lent) (r : ReadPlan) (x : Reading) → Gives text before after r x → r ≡ outlined x
+pub gives-outlined : (text : List ℕ) (before after : Lent) (r : ReadPlan) (x : Reading) → Gives text before after r x → r ≡ outlined text x
 gives-outlined text before after r (accepted p) g =
     λ i. record {
       checked = g .accepts i;
+      looks = g .looks i;
       workers = g .workers i;
       form = g .form i;
       tasks = g .tasks i;

@@ -6,19 +6,33 @@ use lib.ListN.{length}
 use lib.Seq.{sets}
 use Rattle.refusals.specs.declared.Refusal.{Refusal}
 use Rattle.refusals.specs.Number.{number}
+use Rattle.text.specs.LineEnds.{linesSize}
 use Rattle.plan.specs.declared.form.Form.the-variants.{First}
 use Rattle.plan.specs.Plan.{Plan}
-use Rattle.plan.specs.Reading.{Reading, accepted, refused}
+use Rattle.plan.specs.Reading.{Reading, accepted, refused, reading}
 use Rattle.kept.specs.Tasks.{KeepsTasks}
 use Rattle.kept.specs.Orders.{KeepsOrders}
 use Rattle.reader.specs.declared.Checked.{Checked}
 use Rattle.reader.specs.declared.Checked.the-variants.{Accepted, Refused}
+use Rattle.reader.specs.declared.CheckedText.{CheckedText}
 use Rattle.reader.specs.declared.ReadPlan.{ReadPlan}
 
+-- how many bytes of a text are looked at, each once: all of them, or those of the lines up to the refused one (with a refusal that is the
+-- caller's, line 0, none)
+abbrev pub looked : List ℕ → Reading → ℕ
+looked text (accepted p) = length text
+looked text (refused r line) = linesSize line text
+
+abbrev pub checkedAs : Reading → Checked
+checkedAs (accepted p) = Accepted
+checkedAs (refused r line) = Refused r line
+
+abbrev pub checkedText : Checked → ℕ → CheckedText
+checkedText checked looks = record { checked = checked; looks = looks }
+
 -- the answer of the checking function
-abbrev pub verdict : Reading → Checked
-verdict (accepted p) = Accepted
-verdict (refused r line) = Refused r line
+abbrev pub verdict : List ℕ → CheckedText
+verdict text = checkedText (checkedAs (reading text)) (looked text (reading text))
 
 -- an answer by the paper's number, 0 where nothing is refused, and the values that go with it
 pub record Told : Type 0 where
@@ -29,32 +43,50 @@ pub record Told : Type 0 where
 abbrev pub toldRefusal : Refusal → ℕ → Told
 toldRefusal r line = record { number = number r; values = line ∷ [] }
 
--- that of a check
-abbrev pub told : Checked → Told
-told Accepted = record { number = 0; values = [] }
-told (Refused r line) = toldRefusal r line
+-- that of a check, with the looks as its last value
+abbrev pub toldLooks : Checked → ℕ → Told
+toldLooks Accepted n = record { number = 0; values = n ∷ [] }
+toldLooks (Refused r line) n = record { number = number r; values = line ∷ n ∷ [] }
+
+abbrev pub told : CheckedText → Told
+told r = toldLooks (r .checked) (r .looks)
 
 -- what is to be told of a text
-abbrev pub toldOf : Reading → Told
-toldOf (accepted p) = record { number = 0; values = [] }
-toldOf (refused r line) = toldRefusal r line
+abbrev pub toldReading : List ℕ → Reading → Told
+toldReading text (accepted p) = record { number = 0; values = length text ∷ [] }
+toldReading text (refused r line) = record { number = number r; values = line ∷ linesSize line text ∷ [] }
 
-pub told-verdict : (x : Reading) → told (verdict x) ≡ toldOf x
-told-verdict (accepted p) = refl
-told-verdict (refused r line) = refl
+abbrev pub toldOf : List ℕ → Told
+toldOf text = toldReading text (reading text)
 
-abbrev pub noPlan : Refusal → ℕ → ReadPlan
-noPlan refusal line = record { checked = Refused refusal line; workers = 0; form = First; tasks = 0; orders = 0 }
+pub told-verdict : (text : List ℕ) → told (verdict text) ≡ toldOf text
+told-verdict text = by (reading text)
+  where
+    by : (x : Reading) → toldLooks (checkedAs x) (looked text x) ≡ toldReading text x
+    by (accepted p) = refl
+    by (refused r line) = refl
+
+abbrev pub noPlan : Refusal → ℕ → ℕ → ReadPlan
+noPlan refusal line looks =
+    record { checked = Refused refusal line; looks = looks; workers = 0; form = First; tasks = 0; orders = 0 }
 
 -- what is answered of a text where nothing of its tasks and order lines is kept
-abbrev pub outlined : Reading → ReadPlan
-outlined (accepted p) =
-    record { checked = Accepted; workers = p .workers; form = p .form; tasks = length (p .tasks); orders = length (p .orders) }
-outlined (refused r line) = noPlan r line
+abbrev pub outlined : List ℕ → Reading → ReadPlan
+outlined text (accepted p) =
+    record {
+      checked = Accepted;
+      looks = length text;
+      workers = p .workers;
+      form = p .form;
+      tasks = length (p .tasks);
+      orders = length (p .orders);
+    }
+outlined text (refused r line) = noPlan r line (linesSize line text)
 
-pub outlined-verdict : (x : Reading) → outlined x .checked ≡ verdict x
-outlined-verdict (accepted p) = refl
-outlined-verdict (refused r line) = refl
+pub outlined-verdict : (text : List ℕ) (x : Reading)
+    → checkedText (outlined text x .checked) (outlined text x .looks) ≡ checkedText (checkedAs x) (looked text x)
+outlined-verdict text (accepted p) = refl
+outlined-verdict text (refused r line) = refl
 
 -- what is lent for the rows of tasks and of order lines, before and after
 pub record Lent : Type 0 where
@@ -67,6 +99,7 @@ lent rows lines = record { rows = rows; lines = lines }
 -- a plan as it was read from a text, and what is kept of it
 pub record Says (text : List ℕ) (before after : Lent) (r : ReadPlan) (p : Plan) : Type 0 where
   pub accepts : r .checked ≡ Accepted
+  pub looks : r .looks ≡ length text
   pub workers : r .workers ≡ p .workers
   pub form : r .form ≡ p .form
   pub tasks : r .tasks ≡ length (p .tasks)
@@ -82,4 +115,4 @@ Front before after = (ns : List ℕ) × (after ≡ sets before 0 ns)
 abbrev pub Gives : List ℕ → Lent → Lent → ReadPlan → Reading → Type 0
 Gives text before after r (accepted p) = Says text before after r p
 Gives text before after r (refused f line) =
-    (r ≡ noPlan f line) × Front (before .rows) (after .rows) × Front (before .lines) (after .lines)
+    (r ≡ noPlan f line (linesSize line text)) × Front (before .rows) (after .rows) × Front (before .lines) (after .lines)

@@ -1,7 +1,9 @@
 // Reads plan texts: see the specs of `plan` for what a text means, and specs/Verdict.antt here for what is answered.
 ghost use mathlib.Core.Path.{_≡_};
 ghost use Prim.Native.Nat.{_≤_};
+ghost use mathlib.Core.Bool.{cond};
 ghost use lib.ListN.{length};
+ghost use Rattle.text.specs.LineEnds.{lineEnd};
 ghost use Rattle.plan.specs.Plan.{emptyPlan};
 ghost use Rattle.plan.specs.Reading.{reading};
 ghost use Rattle.kept.specs.Layout as lay;
@@ -19,21 +21,31 @@ use lines::line::Fault;
 use lines::line::Kind;
 use lines::line::Line;
 use lines::line::Sofar;
+use lines::line::is_wrong;
 use lines::line::read_line;
 use plan::field::Access;
 use plan::field::read_access;
 use plan::form::Form;
 use refusals::Refusal;
+use text::read::rest_of_line;
 
-// What checking a text gives: a refusal has the line's number, from 1, or 0 if it is not the plan's.
+// What a text is found to be: a refusal has the line's number, from 1, or 0 if it is not the plan's.
 pub enum Checked {
     Accepted,
     Refused(Refusal, u64),
 }
 
-// A text as it was read: of an accepted one the plan's workers and its form, and how many tasks and order lines are kept.
+// What checking a text gives: the verdict, and the number of looks at bytes of the text.
+pub struct CheckedText {
+    pub checked: Checked,
+    pub looks: u64,
+}
+
+// A text as it was read: the looks at its bytes; of an accepted one the plan's workers and its form, and how many tasks and order lines are
+// kept.
 pub struct ReadPlan {
     pub checked: Checked,
+    pub looks: u64,
     pub workers: u64,
     pub form: Form,
     pub tasks: usize,
@@ -42,16 +54,29 @@ pub struct ReadPlan {
 
 const TEXT_SIZE: usize = 65536;
 
-fn refused(refusal: Refusal, line: u64) -> ReadPlan
-    ensures { λ r. ⌜ r ≡ noPlan refusal line ⌝ }
+fn refused(refusal: Refusal, line: u64, looks: u64) -> ReadPlan
+    ensures { λ r. ⌜ r ≡ noPlan refusal line looks ⌝ }
 {
     ReadPlan {
         checked: Checked::Refused(refusal, line),
+        looks,
         workers: 0,
         form: Form::First,
         tasks: 0,
         orders: 0,
     }
+}
+
+// Refuses a line of which so many bytes of the text are looked at; where it goes on, it is looked at to its end.
+fn refuse_line(text: &[u8], refusal: Refusal, line: u64, more: bool, seen: u64) -> ReadPlan
+    requires { ⌜ seen ≤ length (now text) ⌝ }
+    ensures { λ r. ⌜ r ≡ noPlan refusal line (cond more (lineEnd (now (text .entry)) seen) seen) ⌝ }
+{
+    let mut looks = seen;
+    if more {
+        rest_of_line(text, seen as usize, &mut looks);
+    }
+    refused(refusal, line, looks)
 }
 
 fn no_lines() -> Sofar
@@ -74,6 +99,7 @@ fn keep(sofar: Sofar, line: Line, row: &[u64], rows: &mut [u64], orders: &mut [u
     let kind = line.kind;
     let mut s = sofar;
     match kind {
+        Kind::Wrong => {}
         Kind::Workers(form) => {
             s = Sofar {
                 workers: line.first,
@@ -107,17 +133,28 @@ fn read_lines(text: &[u8], rows: &mut [u64], orders: &mut [u64]) -> ReadPlan
     let mut sofar = no_lines();
     let mut number: u64 = 1;
     let mut at: usize = 0;
+    let mut looks: u64 = 0;
+    let mut more = false;
     let mut fault = Fault::Nothing;
     let mut row = [0u64; layout::TASK_ROW];
     'lines: while at < text.len() {
-        let line = read_line(text, at, sofar, &mut row);
+        let line = read_line(text, at, sofar, &mut row, &mut looks);
         let mut accesses = no_accesses();
-        let mut more = line.more;
+        more = line.more;
+        if is_wrong(line) {
+            fault = Fault::Is(Refusal::Malformed);
+            break 'lines;
+        }
         at = line.next;
         while more {
-            let access = read_access(text, at);
+            let access = read_access(text, at, &mut looks);
             match access {
                 Access::Malformed => {
+                    fault = Fault::Is(Refusal::Malformed);
+                    break 'lines;
+                }
+                Access::MalformedAtEnd => {
+                    more = false;
                     fault = Fault::Is(Refusal::Malformed);
                     break 'lines;
                 }
@@ -141,14 +178,15 @@ fn read_lines(text: &[u8], rows: &mut [u64], orders: &mut [u64]) -> ReadPlan
         number += 1;
     }
     if let Fault::Is(refusal) = fault {
-        return refused(refusal, number);
+        return refuse_line(text, refusal, number, more, looks);
     }
     if sofar.workers == 0 {
-        return refused(Refusal::Misplaced, number);
+        return refused(Refusal::Misplaced, number, looks);
     }
     let form = sofar.form;
     ReadPlan {
         checked: Checked::Accepted,
+        looks,
         workers: sofar.workers,
         form,
         tasks: sofar.tasks,
@@ -162,14 +200,14 @@ pub fn read(text: &[u8], rows: &mut [u64], orders: &mut [u64]) -> ReadPlan
         (lent (now (rows .exit)) (now (orders .exit))) r (reading (now (text .entry))) ⌝ }
 {
     if TEXT_SIZE < text.len() {
-        return refused(Refusal::TextTooLong, 0);
+        return refused(Refusal::TextTooLong, 0, 0);
     }
     read_lines(text, rows, orders)
 }
 
 // Reads a plan text and keeps nothing of its tasks and order lines.
 pub fn outline(text: &[u8]) -> ReadPlan
-    ensures { λ r. ⌜ r ≡ outlined (reading (now (text .entry))) ⌝ }
+    ensures { λ r. ⌜ r ≡ outlined (now (text .entry)) (reading (now (text .entry))) ⌝ }
 {
     let mut none = [0u64; 1];
     let mut no_orders = [0u64; 1];
@@ -177,10 +215,14 @@ pub fn outline(text: &[u8]) -> ReadPlan
 }
 
 // Checks a plan text.
-pub fn check(text: &[u8]) -> Checked
-    ensures answer { λ r. ⌜ r ≡ verdict (reading (now (text .entry))) ⌝ }
-    ensures told { λ r. ⌜ told r ≡ toldOf (reading (now (text .entry))) ⌝ }
+pub fn check(text: &[u8]) -> CheckedText
+    ensures answer { λ r. ⌜ r ≡ verdict (now (text .entry)) ⌝ }
+    ensures told { λ r. ⌜ told r ≡ toldOf (now (text .entry)) ⌝ }
 {
     let read = outline(text);
-    read.checked
+    let checked = read.checked;
+    CheckedText {
+        checked,
+        looks: read.looks,
+    }
 }

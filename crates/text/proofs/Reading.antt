@@ -11,11 +11,12 @@ use lib.ListN.{drop, getD}
 use borrow.Author.Tests.{ne-eqb, lt-ltb, le-ltb, le-leb, lt-leb, eqb-true, eqb-false, ltb-false}
 use Rattle.runs.specs.Every.{every}
 use Rattle.text.specs.declared.read.Number.{Number}
-use Rattle.text.specs.declared.read.Number.the-variants.{Malformed}
+use Rattle.text.specs.declared.read.Number.the-variants.{Malformed, MalformedAtEnd, Is}
 use Rattle.text.specs.declared.read.Digits.{Digits}
 use Rattle.text.specs.Text.{tab, lineFeed, isDigit, valueAfter, numberOf}
 use Rattle.runs.specs.Tests.{ways}
-use Rattle.text.specs.Fields.{NONE, fieldOf, answer, fitsIn, numberBy, asNumber}
+use Rattle.text.specs.LineEnds.{NONE, afterLook, Reaches, reaches-on, reaches-other, look-within}
+use Rattle.text.specs.Fields.{fieldOf, answer, fitsIn, numberBy, asNumber, shape, Looked}
 use Rattle.text.specs.Fields.{held, Clipped, digitAfter, endNumber, moreOf, moreDigits}
 use Rattle.text.specs.FieldLaws.{byte-within, answer-tab, answer-line-feed, answer-on, answer-bad}
 
@@ -53,6 +54,29 @@ low b h = simp (lt-leb 48 b h)
 high : (b : ℕ) → 57 < b → isDigit b ≡ false
 high b h = simp (le-leb 48 b (omega arith), lt-leb b 57 h)
 
+-- ---- the end of a number's field
+
+pub end-shape : (digits : Digits) (end next : ℕ) → shape (endNumber digits end next) ≡ endNumber digits end next
+end-shape digits end next =
+    ways (eqb end tab) (λ e. simp e) (λ e. ways (eqb end lineFeed) (λ q. simp (e, q)) (λ q. simp (e, q)))
+
+-- the bytes before it were looked at once, and so is the one at its end
+pub end-looked : {text : List ℕ} {from at : ℕ} → Reaches text from true at → (digits : Digits)
+    → Looked text from (endNumber digits (getD text at NONE) (at + 1)) (afterLook text at)
+end-looked {text} {from} {at} so digits =
+    let b = getD text at NONE in
+    ways (eqb b tab)
+    (λ e. simp e (look-within text at (byte-within text at (omega (arith, eqb-true b tab e))))) (λ e.
+    ways (eqb b lineFeed)
+    (λ q. simp (e, q) (look-within text at (byte-within text at (omega (arith, eqb-true b lineFeed q)))))
+    (λ q. simp (e, q) (reaches-on so (reaches-other text at (so .within) (eqb-false b lineFeed q)))))
+
+-- what was looked at of a field's rest was looked at of the field
+pub looked-after : {text : List ℕ} {from at : ℕ} → Reaches text from true at → (r : Number) (n : ℕ) → Looked text at r n → Looked text from r n
+looked-after so Malformed n h = reaches-on so h
+looked-after so MalformedAtEnd n h = reaches-on so h
+looked-after so (Is value fits next more) n h = h
+
 -- ---- a field by its first byte
 
 -- the field at a place, where its bytes say a number by `go`
@@ -86,24 +110,31 @@ more-other : (n b : ℕ) → isDigit b ≡ false → (x : List ℕ) → moreOf n
 unfolding every
 more-other n b d x = simp d
 
-more-on : (n b : ℕ) → isDigit b ≡ true → (x : List ℕ) → moreOf (n * 10 + (b - 48)) x ≡ moreOf n (b ∷ x)
+-- no digit follows a leading zero
+more-zero : (b : ℕ) (x : List ℕ) → moreOf 0 (b ∷ x) ≡ none
+more-zero b x = ways (every isDigit (b ∷ x)) (λ e. simp e) (λ e. simp e)
+
+more-on : (n b : ℕ) → n ≢ 0 → isDigit b ≡ true → (x : List ℕ) → moreOf (n * 10 + (b - 48)) x ≡ moreOf n (b ∷ x)
 unfolding every valueAfter
-more-on n b d x = simp d
+more-on n b z d [] = simp (d, ne-eqb n 0 z)
+more-on n b z d (c ∷ x) = simp (d, ne-eqb n 0 z, ne-eqb (n * 10 + (b - 48)) 0 (omega arith))
 
 module _ (n : ℕ) (text : List ℕ) (at : ℕ) where
   pub more-end : getD text at NONE < 48 → endNumber (held n) (getD text at NONE) (at + 1) ≡ moreDigits n at (fieldOf (drop at text))
-  unfolding every valueAfter
   more-end h = end-byte (moreOf n) text at n refl (more-other n (getD text at NONE) (low (getD text at NONE) h))
 
   pub more-high : 57 < getD text at NONE → Malformed ≡ moreDigits n at (fieldOf (drop at text))
   more-high h =
       bad-byte (moreOf n) text at (omega arith) (omega arith) (more-other n (getD text at NONE) (high (getD text at NONE) h))
 
-  pub more-digit : 48 ≤ getD text at NONE → getD text at NONE ≤ 57
+  pub more-leading : n ≡ 0 → 48 ≤ getD text at NONE → Malformed ≡ moreDigits n at (fieldOf (drop at text))
+  more-leading z l = bad-byte (moreOf n) text at (omega arith) (omega arith) (rw z (more-zero (getD text at NONE)))
+
+  pub more-digit : n ≢ 0 → 48 ≤ getD text at NONE → getD text at NONE ≤ 57
       → moreDigits (n * 10 + (getD text at NONE - 48)) (at + 1) (fieldOf (drop (at + 1) text)) ≡ moreDigits n at (fieldOf (drop at text))
-  more-digit l h =
+  more-digit z l h =
       let b = getD text at NONE in
-      digit-byte (moreOf n) text at l h (moreOf (n * 10 + (b - 48))) (more-on n b (digit b l h))
+      digit-byte (moreOf n) text at l h (moreOf (n * 10 + (b - 48))) (more-on n b z (digit b l h))
 
 -- ---- the first digit
 
@@ -112,16 +143,16 @@ unfolding numberOf every
 first-other b d [] = simp d
 first-other b d (c ∷ x) = simp d
 
-first-digit : (b : ℕ) → isDigit b ≡ true → b ≢ 48 → (x : List ℕ) → moreOf (b - 48) x ≡ numberOf (b ∷ x)
-unfolding numberOf every valueAfter
-first-digit b d z [] = simp d
-first-digit b d z (c ∷ x) =
-    let q : 0 * 10 + (b - 48) ≡ b - 48 = omega arith in
-    ways (isDigit c && every isDigit x) (λ e. simp (d, ne-eqb b 48 z, q, e)) (λ e. simp (d, e))
+same-zero : (b : ℕ) → 48 ≤ b → eqb (b - 48) 0 ≡ eqb b 48
+same-zero b l =
+    ways (eqb b 48) (λ e. rw (eqb-true b 48 e) refl) (λ e. rw e (ne-eqb (b - 48) 0 (omega (arith, eqb-false b 48 e))))
 
-zero-alone : (b : ℕ) (x : List ℕ) → numberOf (48 ∷ b ∷ x) ≡ none
-unfolding numberOf every
-zero-alone b x = ways (isDigit b && every isDigit x) (λ e. simp e) (λ e. simp e)
+first-digit : (b : ℕ) → 48 ≤ b → isDigit b ≡ true → (x : List ℕ) → moreOf (b - 48) x ≡ numberOf (b ∷ x)
+unfolding numberOf every valueAfter
+first-digit b l d [] = simp d
+first-digit b l d (c ∷ x) =
+    let q : 0 * 10 + (b - 48) ≡ b - 48 = omega arith in
+    rw (same-zero b l) (simp (d, q))
 
 module _ (text : List ℕ) (at : ℕ) where
   number-other : isDigit (getD text at NONE) ≡ false → Malformed ≡ asNumber at (fieldOf (drop at text))
@@ -138,16 +169,8 @@ module _ (text : List ℕ) (at : ℕ) where
   pub number-high : 57 < getD text at NONE → Malformed ≡ asNumber at (fieldOf (drop at text))
   number-high h = number-other (high (getD text at NONE) h)
 
-  pub number-zero : getD text at NONE ≡ 48 → endNumber (held 0) (getD text (at + 1) NONE) (at + 2) ≡ asNumber at (fieldOf (drop at text))
-  unfolding numberOf
-  number-zero e =
-      let q : at + 2 ≡ at + 1 + 1 = omega arith in
-      rw q (end-byte (λ x. numberOf (48 ∷ x)) text (at + 1) 0 refl (zero-alone (getD text (at + 1) NONE)))
-      ∙ digit-byte numberOf text at (omega arith) (omega arith) (λ x. numberOf (48 ∷ x))
-      (λ x. ap (λ (b : ℕ). numberOf (b ∷ x)) (sym e))
-
-  pub number-digit : 48 ≤ getD text at NONE → getD text at NONE ≤ 57 → getD text at NONE ≢ 48
+  pub number-digit : 48 ≤ getD text at NONE → getD text at NONE ≤ 57
       → moreDigits (getD text at NONE - 48) (at + 1) (fieldOf (drop (at + 1) text)) ≡ asNumber at (fieldOf (drop at text))
-  number-digit l h z =
+  number-digit l h =
       let b = getD text at NONE in
-      digit-byte numberOf text at l h (moreOf (b - 48)) (first-digit b (digit b l h) z)
+      digit-byte numberOf text at l h (moreOf (b - 48)) (first-digit b l (digit b l h))

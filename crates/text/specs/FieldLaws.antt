@@ -14,7 +14,8 @@ use Rattle.runs.specs.Update.{order, clash}
 use Rattle.runs.specs.Tests.{ways}
 use Rattle.runs.specs.Stores.{drop-from}
 use Rattle.text.specs.Text.{tab, lineFeed, onFirst, split}
-use Rattle.text.specs.Fields.{NONE, Cut, endless, cut, cutAfter, fieldOf, answer}
+use Rattle.text.specs.LineEnds.{NONE, linesSize, lineEnd, Reaches}
+use Rattle.text.specs.Fields.{Cut, endless, cut, cutAfter, fieldOf, answer}
 use Rattle.text.specs.Fields.{First, unended, first, behind, begun, firstLine, goesOn, Fields}
 
 -- ---- the first field from a place on, by the byte there
@@ -191,6 +192,57 @@ fields-letter text at b e h t l after =
     let here : at < length text = byte-within text at (rw e h) in
     fields-more (fields-none text at (omega arith)) (b ∷ []) true (drop (at + 1 + 1) text)
     (field-on text at here (rw e t) (rw e l) ∙ rw (e, field-tab text (at + 1) after))
+
+-- ---- where the fields of a line lead
+
+-- n bytes of m are those of the first line, by what follows it
+abbrev Fills : ℕ → ℕ → First → Type 0
+Fills n m unended = n ≡ m
+Fills n m (first fs rest) = n + length rest ≡ m
+
+fills-behind : (n m : ℕ) (fs : List (List ℕ)) (l : First) → Fills n m l → Fills (suc n) (suc m) (behind fs l)
+fills-behind n m fs unended h = ap suc h
+fills-behind n m fs (first gs rest) h = omega (arith, h)
+
+fills-begun : (n m b : ℕ) (l : First) → Fills n m l → Fills (suc n) (suc m) (begun b l)
+fills-begun n m b unended h = ap suc h
+fills-begun n m b (first gs rest) h = omega (arith, h)
+
+line-fills : (t : List ℕ) → Fills (linesSize 1 t) (length t) (firstLine t)
+unfolding firstLine linesSize
+line-fills [] = refl
+line-fills (b ∷ bs) =
+    ways (eqb b tab) (λ e. rw (eqb-true b tab e) (fills-behind (linesSize 1 bs) (length bs) ([] ∷ []) (firstLine bs) (line-fills bs))) (λ e.
+    ways (eqb b lineFeed) (λ q. simp (e, q) (omega arith))
+    (λ q. simp (e, q) (fills-begun (linesSize 1 bs) (length bs) b (firstLine bs) (line-fills bs))))
+
+-- the line goes on after them, or has ended
+pub fields-reach : {text : List ℕ} {at : ℕ} {fs : List (List ℕ)} {next : ℕ} (more : Bool) → Fields text at fs next more
+    → Reaches text at more next
+fields-reach {text} {at} {fs} {next} false so =
+    record {
+      on = omega (arith, so .on);
+      within = so .within;
+      line = omega (
+        arith,
+        so .on,
+        so .within,
+        length-drop at text,
+        length-drop next text,
+        rw (so .line) at (line-fills (drop at text)),
+      );
+    }
+fields-reach {text} {at} {fs} {next} true so =
+    record {
+      on = omega (arith, so .on);
+      within = so .within;
+      line = by (firstLine (drop next text)) (line-fills (drop next text)) (rw (so .line) at (line-fills (drop at text)));
+    }
+  where
+    by : (l : First) → Fills (linesSize 1 (drop next text)) (length (drop next text)) l
+        → Fills (linesSize 1 (drop at text)) (length (drop at text)) (behind fs l) → lineEnd text next ≡ lineEnd text at
+    by unended h k = omega (arith, so .on, so .within, length-drop at text, length-drop next text)
+    by (first gs rest) h k = omega (arith, so .on, so .within, length-drop at text, length-drop next text)
 
 -- ---- the first line among the parts of a text
 

@@ -1,20 +1,18 @@
 -- The first field of a text, and what the readers of one field answer.
 use Prim.Native.Nat.{ℕ, _+_, _*_, _^_, _≤_}
 use mathlib.Core.Path.{_≡_}
-use mathlib.Core.Bool.{Bool, true, false, cond, _&&_}
+use mathlib.Core.Bool.{Bool, true, false, cond, not, _&&_}
 use mathlib.Core.List.{List, [], _∷_, _++_}
 use mathlib.Core.Option.{Option, none, some}
 use lib.ListN.{length, drop}
 use lib.Dec.{eqb, ltb}
 use Rattle.text.specs.declared.read.Number.{Number}
-use Rattle.text.specs.declared.read.Number.the-variants.{Malformed, Is}
+use Rattle.text.specs.declared.read.Number.the-variants.{Malformed, MalformedAtEnd, Is}
 use Rattle.text.specs.declared.read.Digits.{Digits}
 use Rattle.runs.specs.Every.{every}
 use Rattle.text.specs.Text.{tab, lineFeed, onFirst, isDigit, valueAfter, numberOf}
-
--- what is seen past a text's end: no byte
-abbrev pub NONE : ℕ
-NONE = 256
+use Rattle.text.specs.LineEnds.{Reaches}
+pub use Rattle.text.specs.LineEnds.{NONE}
 
 -- ---- the first field of a text
 
@@ -86,6 +84,18 @@ numberBy (some v) next more = Is (clipped v) (fitsIn v) next more
 abbrev pub asNumber : ℕ → Cut → Number
 asNumber = answer Malformed (λ x. numberBy (numberOf x))
 
+-- an answer, whatever follows a malformed field
+abbrev pub shape : Number → Number
+shape Malformed = Malformed
+shape MalformedAtEnd = Malformed
+shape (Is value fits next more) = Is value fits next more
+
+-- each byte of the field at a place was looked at once, n bytes of the text so far; of a malformed one as many as the reader needs
+abbrev pub Looked : List ℕ → ℕ → Number → ℕ → Type 0
+Looked text at Malformed n = Reaches text at true n
+Looked text at MalformedAtEnd n = Reaches text at false n
+Looked text at (Is value fits next more) n = n ≡ next
+
 -- ---- parts of the reader
 
 -- the digits that say a number
@@ -108,9 +118,10 @@ endNumber digits end next =
     cond (eqb end tab) (Is (digits .value) (digits .fits) next true)
     (cond (eqb end lineFeed) (Is (digits .value) (digits .fits) next false) Malformed)
 
--- the number that x says after digits that say n
+-- the number that x says after digits that say n, none after a leading zero
 abbrev pub moreOf : ℕ → List ℕ → Option ℕ
-moreOf n x = cond (every isDigit x) (some (valueAfter n x)) none
+moreOf n [] = some n
+moreOf n (b ∷ x) = cond (every isDigit (b ∷ x) && not (eqb n 0)) (some (valueAfter n (b ∷ x))) none
 
 -- the same of the field at a place
 abbrev pub moreDigits : ℕ → ℕ → Cut → Number

@@ -1,6 +1,7 @@
 pub mod Text
 pub mod Decimals
 pub mod Numerals
+pub mod LineEnds
 pub mod Fields
 pub mod FieldLaws
 pub mod Lines

@@ -1,14 +1,17 @@
 // Readers of fields: each takes a text and a place in it, looks at each byte once, for form and value together, and goes past the tab or
-// the line feed that ends the field. `look` is the only read of a byte of a text.
+// the line feed that ends the field. `look` is the only read of a byte of a text, and it alone raises `looks`, the count that is lent from
+// reader to reader: it is the place, as long as each byte before has been looked at once.
 ghost use mathlib.Core.Path.{_≡_};
 ghost use Prim.Native.Nat.{_≤_};
 ghost use lib.ListN.{length, drop, getD};
-ghost use Rattle.text.specs.Fields.{NONE, fieldOf, asNumber, Clipped, digitAfter, endNumber, moreDigits};
+ghost use Rattle.text.specs.LineEnds.{lineEnd, afterLook};
+ghost use Rattle.text.specs.Fields.{NONE, fieldOf, asNumber, shape, Looked, Clipped, digitAfter, endNumber, moreDigits};
 
 // A number's field as it was read: the place after its end, and whether a tab ended it, so that one more follows. A number of 2^64 or more
-// does not fit, and has the value 2^64 - 1.
+// does not fit, and has the value 2^64 - 1. A malformed one is left at the byte that shows it: the line goes on, or has ended with that byte.
 pub enum Number {
     Malformed,
+    MalformedAtEnd,
     Is {
         value: u64,
         fits: bool,
@@ -45,14 +48,31 @@ fn wide(b: u8) -> u64
     b as u64
 }
 
-// Looks at the byte at a place.
-pub fn look(text: &[u8], at: usize) -> u64
-    ensures { λ r. ⌜ r ≡ getD (now (text .entry)) at NONE ⌝ }
+// Looks at the byte at a place, and counts the look.
+pub fn look(text: &[u8], at: usize, looks: &mut u64) -> u64
+    requires { ⌜ now looks ≡ at ⌝ }
+    ensures byte { λ r. ⌜ r ≡ getD (now (text .entry)) at NONE ⌝ }
+    ensures counted { λ _. ⌜ now (looks .exit) ≡ afterLook (now (text .entry)) at ⌝ }
 {
     if at < text.len() {
+        *looks += 1;
         return wide(text[at]);
     }
     NONE
+}
+
+// Looks at what is left of a line, up to its end or that of the text.
+pub fn rest_of_line(text: &[u8], from: usize, looks: &mut u64)
+    requires { ⌜ (from ≤ length (now text)) × (now looks ≡ from) ⌝ }
+    ensures { λ _. ⌜ now (looks .exit) ≡ lineEnd (now (text .entry)) from ⌝ }
+{
+    let mut at = from;
+    while at < text.len() {
+        if look(text, at, looks) == LINE_FEED {
+            return;
+        }
+        at += 1;
+    }
 }
 
 // One digit more.
@@ -109,9 +129,11 @@ fn end_number(digits: Digits, end: u64, next: usize) -> Number
     Number::Malformed
 }
 
-// The rest of a number, after its first digit, which is not 0.
-fn more_digits(text: &[u8], first: u64, from: usize) -> Number
-    ensures { λ r. ⌜ r ≡ moreDigits first from (fieldOf (drop from (now (text .entry)))) ⌝ }
+// The rest of a number, after its first digit: none follows a leading zero.
+fn more_digits(text: &[u8], first: u64, from: usize, looks: &mut u64) -> Number
+    requires { ⌜ (from ≤ length (now text)) × (now looks ≡ from) ⌝ }
+    ensures answer { λ r. ⌜ shape r ≡ moreDigits first from (fieldOf (drop from (now (text .entry)))) ⌝ }
+    ensures counted { λ r. ⌜ Looked (now (text .entry)) from r (now (looks .exit)) ⌝ }
 {
     let mut at = from;
     let mut digits = Digits {
@@ -119,12 +141,15 @@ fn more_digits(text: &[u8], first: u64, from: usize) -> Number
         fits: true,
     };
     loop {
-        let b = look(text, at);
+        let b = look(text, at, looks);
         // a digit, the commonest byte, takes the fewest tests
         if b < ZERO {
             return end_number(digits, b, at + 1);
         }
         if NINE < b {
+            return Number::Malformed;
+        }
+        if first == 0 {
             return Number::Malformed;
         }
         digits = with_digit(digits, b - ZERO);
@@ -133,23 +158,20 @@ fn more_digits(text: &[u8], first: u64, from: usize) -> Number
 }
 
 // A number: digits, no leading zero except 0 itself.
-pub fn read_number(text: &[u8], at: usize) -> Number
-    requires { ⌜ at ≤ length (now text) ⌝ }
-    ensures { λ r. ⌜ r ≡ asNumber at (fieldOf (drop at (now (text .entry)))) ⌝ }
+pub fn read_number(text: &[u8], at: usize, looks: &mut u64) -> Number
+    requires { ⌜ (at ≤ length (now text)) × (now looks ≡ at) ⌝ }
+    ensures answer { λ r. ⌜ shape r ≡ asNumber at (fieldOf (drop at (now (text .entry)))) ⌝ }
+    ensures counted { λ r. ⌜ Looked (now (text .entry)) at r (now (looks .exit)) ⌝ }
 {
-    let first = look(text, at);
-    if first == ZERO {
-        let zero = Digits {
-            value: 0,
-            fits: true,
-        };
-        return end_number(zero, look(text, at + 1), at + 2);
-    }
+    let first = look(text, at, looks);
     if first < ZERO {
+        if first == LINE_FEED {
+            return Number::MalformedAtEnd;
+        }
         return Number::Malformed;
     }
     if NINE < first {
         return Number::Malformed;
     }
-    more_digits(text, first - ZERO, at + 1)
+    more_digits(text, first - ZERO, at + 1, looks)
 }

@@ -37,6 +37,13 @@ front n bs output after e q =
       later = rw q (drop-at bs (drop (length bs) output) n (sym e) ∙ ap (λ (k : ℕ). drop k output) (sym e));
     }
 
+-- a line that was written at the front, where there is room for it
+pub line-front : (fs : List (List ℕ)) {n : ℕ} {output after : List ℕ} → Wrote output 0 (fields fs) n after → n ≤ length output
+    → Front n (line fs) output after
+line-front fs {n} {output} {after} wrote room =
+    let plainly : Wrote output 0 (plain (line fs)) n after = wrote-as refl wrote in
+    front n (line fs) output after (told-length plainly) (wrote-whole plainly (omega (arith, told-length plainly)))
+
 -- an output that is long enough for every refusal's line, and for the result if there is one, begins in the end with what is to be printed
 module _ (output mid after : List ℕ) (a : Answer) (n : ℕ) (shown : Shown a mid n after) (room : 26 ≤ length output) where
   pub prints : (x : Result) → ((bs : List ℕ) → x ≡ result bs → length bs ≤ length output) → outcome a mid ≡ written output x
@@ -49,6 +56,4 @@ module _ (output mid after : List ℕ) (a : Answer) (n : ℕ) (shown : Shown a m
   prints (refusal r k) long e =
       let kept : mid ≡ output = ap (λ (o : Outcome). o .output) e in
       let (wrote, short) = subst (λ (b : Answer). Shown b mid n after) (ap (λ (o : Outcome). o .answer) e) shown in
-      let plainly : Wrote output 0 (plain (line (refusalFields (number r) k))) n after = wrote-as refl (rw kept at wrote) in
-      front n (line (refusalFields (number r) k)) output after (told-length plainly)
-      (wrote-whole plainly (omega (arith, told-length plainly)))
+      line-front (refusalFields (number r) k) (rw kept at wrote) (omega arith)

@@ -14,15 +14,24 @@ pub(crate) fn refusal(number: u64, line: u64) -> Refusal {
     }
 }
 
+/// What a check says of a text, and its looks at bytes of it.
+#[derive(Clone, Copy, Debug, PartialEq, Eq)]
+pub struct Checked {
+    pub verdict: Result<(), Refusal>,
+    pub looks: u64,
+}
+
 /// Any text; a refusal has its number and line.
-pub fn check(text: &[u8]) -> Result<(), Refusal> {
+pub fn check(text: &[u8]) -> Checked {
     let answer = unsafe { salfunye_check(text.as_ptr(), text.len()) };
-    if answer.number == 0 {
+    let verdict = if answer.number == 0 {
         assert_eq!(answer.line, 0, "an accepted text has no line");
         Ok(())
     } else {
         Err(refusal(answer.number, answer.line))
-    }
+    };
+    let looks = answer.looks;
+    Checked { verdict, looks }
 }
 
 /// Any arguments; a refusal has its number and line, and no picks or length.

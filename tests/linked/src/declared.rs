@@ -109,6 +109,7 @@ pub mod bench_c {
     pub struct CheckedC {
         pub number: u64,
         pub line: u64,
+        pub looks: u64,
     }
 
     #[repr(C)]

@@ -3,9 +3,10 @@
 //! the same report of a moved plan.
 
 use crate::bench::{run, REPORT_SIZE};
+use crate::check::{self, Difference};
+use crate::convert;
 use crate::fence::Fenced;
 use crate::many::{difference, used_output, used_store};
-use crate::{check, convert};
 use second::convert::{to_first, to_second, Converter};
 use second::plan::{Form, Refusal, CAPACITY, SLOTS, TEXT_LIMIT};
 use second::random::{first_form, plan_of_size, with_sizes, Rng};
@@ -207,12 +208,6 @@ fn report(text: &[u8]) -> (u64, Vec<u8>) {
     let reported = run(text, PICKS, &mut store, &mut output).expect("a report");
     output.truncate(reported.length);
     (reported.picks, output)
-}
-
-/// The text on which something differs, and what.
-pub struct Difference {
-    pub text: Vec<u8>,
-    pub what: String,
 }
 
 /// Compares both converters on so many random texts.

@@ -1,10 +1,9 @@
 //! The proved converters: results, refusals and what they leave in the output, held
 //! to the second implementation and to the paper's own words.
 
+use linked::check::Difference;
 use linked::many::used_output;
-use linked::moved::{
-    compare, compare_many, compare_text, Difference, Seen, Way, TO_FIRST, TO_SECOND,
-};
+use linked::moved::{compare, compare_many, compare_text, Seen, Way, TO_FIRST, TO_SECOND};
 use second::random::{first_form, plan_of_size, with_sizes, Rng};
 use second::text::lines;
 

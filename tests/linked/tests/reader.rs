@@ -1,27 +1,56 @@
-//! The proved reader beside the second implementation's.
+//! The proved reader beside the second implementation's, and its looks at bytes.
 
-use linked::bench::check;
-use linked::check::compare;
-use second::plan::check as second_check;
+use linked::bench::{check, Checked};
+use linked::check::{compare_many, compare_text, Difference};
+use second::plan::Refusal;
+use second::random::{plan_of_size, Rng};
 
-fn same(text: &[u8]) {
-    assert_eq!(
-        check(text),
-        second_check(text).map(|_| ()),
+/// Plans with every kind of line, the last one with the longest fields.
+const PLANS: [&str; 3] = [
+    "W\t2\nT\ta-1\t10\tr5\tw7\nP\t1\t3\nR\t2\nS\t9\t4\n",
+    "W\t2\t10\t8\nT\ta-1\t10\tr5\tw7\nP\t1\t3\nR\t2\nS\t9\t4\n",
+    "W\t32\t64\t16\nT\t0123456789abcdef\t1000\tr65535\tw0\tr10\tw11\n\
+     S\t18446744073709551615\t1000000\nP\t31\t4096\nR\t1000000\n",
+];
+
+fn shown(text: &[u8]) -> String {
+    format!(
         "{:?}",
         String::from_utf8_lossy(&text[..text.len().min(200)])
-    );
+    )
+}
+
+fn same(text: &[u8]) {
+    if let Err(what) = compare_text(text) {
+        panic!("{what}: {}", shown(text));
+    }
+}
+
+/// An accepted text has as many looks as bytes.
+fn accepted(text: &[u8]) {
+    same(text);
+    let (verdict, looks) = (Ok(()), text.len() as u64);
+    assert_eq!(check(text), Checked { verdict, looks }, "{}", shown(text));
+}
+
+/// Refused with this number and line, after so many looks.
+fn refused(text: &[u8], number: u8, line: u64, looks: u64) {
+    same(text);
+    let verdict = Err(Refusal { number, line });
+    assert_eq!(check(text), Checked { verdict, looks }, "{}", shown(text));
 }
 
 #[test]
 fn random_and_damaged_texts() {
-    match compare(20_000, 4) {
+    match compare_many(20_000, 4) {
         Ok(counts) => {
-            let tried = |&number: &usize| counts[number] >= 500;
-            let all = [0, 1, 2, 3, 4, 5, 6, 9].iter().all(tried);
+            let tried = |&number: &usize| counts.refused[number] >= 500;
+            let all = [1, 2, 3, 4, 5, 6, 9].iter().all(tried) && counts.accepted >= 500;
             assert!(all, "each answer is tried: {counts:?}");
+            let (several, before) = (counts.of_several, counts.before_the_last);
+            assert!(several >= 5_000 && before >= 5_000, "{counts:?}");
         }
-        Err(text) => panic!("differ on {:?}", String::from_utf8_lossy(&text)),
+        Err(Difference { text, what }) => panic!("{what}: {}", shown(&text)),
     }
 }
 
@@ -68,16 +97,161 @@ fn long_fields() {
 
 #[test]
 fn every_byte_in_every_place() {
-    for first in ["W\t2\n", "W\t2\t10\t8\n"] {
-        let plan = format!("{first}T\ta-1\t10\tr5\tw7\nP\t1\t3\nR\t2\nS\t9\t4\n");
+    for plan in PLANS {
         for place in 0..plan.len() {
             for byte in 0..=255 {
-                let mut text = plan.clone().into_bytes();
+                let mut text = plan.as_bytes().to_vec();
                 text[place] = byte;
                 same(&text);
             }
-            same(plan[..place].as_bytes());
         }
+    }
+}
+
+/// Where no line feed is put in or taken away, all lines end where they did: so do the
+/// looks, whatever in the refused line is at fault.
+#[test]
+fn looks_with_another_byte_in_a_line() {
+    for plan in PLANS {
+        let ends: Vec<usize> = plan.match_indices('\n').map(|(at, _)| at + 1).collect();
+        let mut refusals = 0;
+        for (line, &end) in ends.iter().enumerate() {
+            let start = if line == 0 { 0 } else { ends[line - 1] };
+            for place in start..end - 1 {
+                for byte in (0..=255).filter(|&byte| byte != b'\n') {
+                    let mut text = plan.as_bytes().to_vec();
+                    text[place] = byte;
+                    let Checked { verdict, looks } = check(&text);
+                    let Err(refused) = verdict else {
+                        assert_eq!(looks, plan.len() as u64, "{}", shown(&text));
+                        continue;
+                    };
+                    refusals += 1;
+                    assert!(refused.line > line as u64, "{}", shown(&text));
+                    let end = ends[refused.line as usize - 1];
+                    assert_eq!(looks, end as u64, "{}", shown(&text));
+                }
+            }
+        }
+        assert!(refusals > 200 * (plan.len() - ends.len()));
+    }
+}
+
+/// A prefix is looked at whole: it is accepted, or its last line has no line feed.
+#[test]
+fn looks_at_every_prefix() {
+    for plan in PLANS {
+        refused(b"", 3, 1, 0);
+        for length in 1..=plan.len() {
+            let text = &plan.as_bytes()[..length];
+            let lines = text.iter().filter(|&&byte| byte == b'\n').count() as u64;
+            if text.ends_with(b"\n") {
+                accepted(text);
+            } else {
+                refused(text, 1, lines + 1, length as u64);
+            }
+        }
+    }
+}
+
+/// The looks end with the refused line, whatever is behind it.
+#[test]
+fn looks_at_refused_texts() {
+    for (text, number, line, looks) in [
+        ("", 3, 1, 0),
+        // the last line without a line feed: what there is of it
+        ("W", 1, 1, 1),
+        ("W\t2", 1, 1, 3),
+        ("W\t2\nR\t1", 1, 2, 7),
+        ("W\t2\nR\t1\nP\t0\t", 1, 3, 12),
+        ("W\t2\nR\t0\nR\t1", 2, 2, 8),
+        // an empty line: its line feed, and not a byte more
+        ("\n", 1, 1, 1),
+        ("\nW\t2\n", 1, 1, 1),
+        ("W\t2\n\nR\t1\n", 1, 2, 5),
+        ("W\t2\n\n\n", 1, 2, 5),
+        ("W\t2\nR\t1\n\n", 1, 3, 9),
+        // a line that ends too early
+        ("W\nR\t1\n", 1, 1, 2),
+        ("W\t\nR\t1\n", 1, 1, 3),
+        ("W\t1\t2\n", 1, 1, 6),
+        ("W\t1\t2\nR\t1\n", 1, 1, 6),
+        ("W\t1\t2\t\nR\t1\n", 1, 1, 7),
+        ("W\t2\nW\t1\t2\nR\t1\n", 1, 2, 10),
+        ("W\t2\nT\nR\t1\n", 1, 2, 6),
+        ("W\t2\nT\ta\nR\t1\n", 1, 2, 8),
+        ("W\t2\nT\ta\t\nR\t1\n", 1, 2, 9),
+        ("W\t2\nT\ta\t0\t\nR\t1\n", 1, 2, 11),
+        ("W\t2\nT\ta\t0\tr\nR\t1\n", 1, 2, 12),
+        ("W\t2\nP\t0\nR\t1\n", 1, 2, 8),
+        ("W\t2\nP\t0\t\nR\t1\n", 1, 2, 9),
+        ("W\t2\nR\t\nR\t1\n", 1, 2, 7),
+        // a label of 17 bytes, at the end of its line and within it
+        ("W\t2\nT\t0123456789abcdefg\n", 1, 2, 24),
+        ("W\t2\nT\t0123456789abcdefg\nR\t1\n", 1, 2, 24),
+        ("W\t2\nT\t0123456789abcdefg\t0\nR\t1\n", 1, 2, 26),
+        // a fault in the middle of a line
+        ("X\t2\nR\t1\n", 1, 1, 4),
+        ("WW\t2\nR\t1\n", 1, 1, 5),
+        ("W\t2\nR\t1x1\nR\t1\n", 1, 2, 10),
+        ("W\t2\nR\t01\nR\t1\n", 1, 2, 9),
+        ("W\t2\nR\t1\t1\nR\t1\n", 1, 2, 10),
+        // form, place and values: a number out of its range waits for both
+        ("W\t33\t65\t-\nR\t1\n", 1, 1, 10),
+        ("W\t33\t65\t17\nR\t1\n", 2, 1, 11),
+        ("W\t4\t3\t8\nR\t1\n", 9, 1, 8),
+        ("W\t2\nP\t9\tx\nR\t1\n", 1, 2, 10),
+        ("W\t2\nP\t9\t0\nR\t1\n", 2, 2, 10),
+        ("W\t2\nW\t0\nR\t1\n", 3, 2, 8),
+        ("R\t0\nW\t2\n", 3, 1, 4),
+        ("W\t2\nR\t1\nT\ta\t1001\nR\t1\n", 3, 3, 17),
+        ("W\t2\nT\ta\t1001\tr5\tr5\nR\t1\n", 2, 2, 19),
+        ("W\t2\nT\ta\t0\tr1\tr2\tr3\tr4\tr1\nR\t1\n", 4, 2, 25),
+        ("W\t2\nT\ta\t0\tr5\tr5\nR\t1\n", 5, 2, 16),
+        ("W\t2\nR\t1\nR\t0\nR\t0\nR\t1\n", 2, 3, 12),
+    ] {
+        refused(text.as_bytes(), number, line, looks);
+    }
+}
+
+/// A fault in a long line, with more lines behind it.
+#[test]
+fn looks_at_a_long_line() {
+    let (digits, accesses) = ("1".repeat(20_000), "\tr5".repeat(6_000));
+    for (line, number) in [
+        (format!("R\t{digits}x{digits}\n"), 1),
+        (format!("R\t{digits}\t{digits}\n"), 1),
+        (format!("S\t{digits}\t{digits}\n"), 2),
+        (format!("T\ta\t0{accesses}x{accesses}\n"), 1),
+        (format!("T\ta\t0{accesses}{accesses}\n"), 4),
+        (format!("T\ta\t{digits}{accesses}\n"), 2),
+        (format!("T\t{digits}\t0{accesses}\n"), 1),
+        (format!("W\t2\t{digits}\t{digits}\n"), 3),
+        (format!("{digits}\t{digits}\n"), 1),
+    ] {
+        for behind in ["", "R\t1\n", "\n\n", "R\t0\nX"] {
+            let text = format!("W\t2\n{line}{behind}");
+            refused(text.as_bytes(), number, 2, 4 + line.len() as u64);
+        }
+    }
+}
+
+/// All bytes of the longest text, where it is accepted or at fault at its end; none of
+/// a longer one.
+#[test]
+fn looks_by_the_size_of_a_text() {
+    for size in [65_535, 65_536] {
+        let plan = plan_of_size(&mut Rng::new(3), size);
+        accepted(&plan);
+        let lines = plan.iter().filter(|&&byte| byte == b'\n').count() as u64;
+        refused(&[&plan[..size - 1], b" "].concat(), 1, lines, size as u64);
+        refused(&[b"\n", &plan[1..]].concat(), 1, 1, 1);
+        refused(&vec![b'W'; size], 1, 1, size as u64);
+        refused(&vec![b'\n'; size], 1, 1, 1);
+    }
+    for size in [65_537, 70_000] {
+        refused(&plan_of_size(&mut Rng::new(3), size), 6, 0, 0);
+        refused(&vec![b'\n'; size], 6, 0, 0);
     }
 }
 

@@ -36,7 +36,7 @@ fn compared(
 /// The report, with blanks for tabs, from a store and an output that were in use.
 fn shown(plan: &[&str]) -> String {
     let text = lines(plan);
-    assert_eq!(check(&text), Ok(()));
+    assert_eq!(check(&text).verdict, Ok(()));
     compared(&text, u64::MAX, STORE, REPORT_SIZE, 3).expect("a report");
     let (mut store, mut output) = (used_store(STORE, 5), vec![b'#'; REPORT_SIZE]);
     let reported = run(&text, u64::MAX, &mut store, &mut output).expect("a report");
@@ -48,7 +48,7 @@ fn shown(plan: &[&str]) -> String {
 
 fn refused(text: &[u8]) -> (u8, u64) {
     let answer = compared(text, u64::MAX, STORE, REPORT_SIZE, 9).expect_err("a refusal");
-    assert_eq!(check(text), Err(answer));
+    assert_eq!(check(text).verdict, Err(answer));
     (answer.number, answer.line)
 }
 

@@ -1,8 +1,10 @@
 //! compare COUNT SEED: has the proof checker compute the bench's definitions on COUNT random plans
-//! and holds each whole answer to this implementation's: of a run (report or refusal, picks, store,
-//! output) and of both converters (length or refusal, output).
+//! and holds each whole answer to this implementation's: of a check (acceptance or refusal, looks),
+//! of a run (report or refusal, picks, store, output) and of both converters (length or refusal,
+//! output).
 
 use second::convert::{to_first, to_second, Converter};
+use second::looks::bounds;
 use second::machine::{Machine, Place};
 use second::order::Picks;
 use second::plan::{check, Refusal};
@@ -110,6 +112,25 @@ fn left(output: &[u8]) -> String {
     list(&output[..written], Some((later, IN_OUTPUT.into())))
 }
 
+/// The theorem that the check's definition tells for a text what this implementation gives: 0, or
+/// the refusal's number and line. Its looks are the most that are allowed: a refused line is looked
+/// at to its end.
+fn checked(seed: u64) -> String {
+    let text = random::sample(seed);
+    let answer = check(&text).map(|_| ());
+    let looks = *bounds(&text, answer).end();
+    let (number, values) = match answer {
+        Ok(()) => (0, vec![looks]),
+        Err(no) => (no.number, vec![no.line, looks]),
+    };
+    format!(
+        "check-{seed} : told (check ({}))\n    ≡ record {{ number = {number}; values = {} }}\n\
+         unfolding computed\ncheck-{seed} = refl\n\n",
+        list(&text, None),
+        list(&values, None),
+    )
+}
+
 /// The theorem that a converter's definition gives for a text what this implementation gives; in an
 /// output that is now and then too short.
 fn moved(seed: u64, name: &str, convert: Converter) -> String {
@@ -159,9 +180,11 @@ fn module(first: u64, count: u64) -> String {
         "use Rattle.refusals.specs.declared.Refusal.the-variants.{{{}}}",
         REFUSALS.join(", ")
     );
-    out.push_str("use Rattle.play.specs.declared.Answer.the-variants.{Reports, Refuses}\nuse Rattle.play.specs.Outcome.{written}\nuse Rattle.bench.specs.Answer.{run, played}\nuse Rattle.bench.specs.Computed.{computed}\n");
+    out.push_str("use Rattle.play.specs.declared.Answer.the-variants.{Reports, Refuses}\nuse Rattle.play.specs.Outcome.{written}\nuse Rattle.bench.specs.Answer.{check, run, played}\nuse Rattle.bench.specs.Computed.{computed}\n");
+    out.push_str("use Rattle.reader.specs.Verdict.{told}\n");
     out.push_str("use Rattle.tools.specs.declared.Answer.the-variants as tools\nuse Rattle.tools.specs.Result.{written as converted}\nuse Rattle.convert.specs.Convert.{afterLine, toSecond, toFirst}\n\n");
     for seed in first..first + count {
+        out.push_str(&checked(seed));
         out.push_str(&theorem(seed));
         out.push_str(&moved(seed, "toSecond", to_second));
         out.push_str(&moved(seed, "toFirst", to_first));
@@ -192,7 +215,7 @@ fn lay_out(root: &Path, text: &str) -> std::io::Result<PathBuf> {
     let listed = std::fs::read_to_string(root.join("crates.txt"))?;
     std::fs::write(
         room.join("crates.txt"),
-        format!("{listed}\ncompared: refusals play bench tools convert\n"),
+        format!("{listed}\ncompared: refusals reader play bench tools convert\n"),
     )?;
     let compared = room.join("crates/compared");
     std::fs::create_dir_all(compared.join("src"))?;

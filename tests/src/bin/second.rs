@@ -1,8 +1,8 @@
-//! second [run|to-second|to-first]: reads a plan on standard input and prints what
+//! second [run|check|to-second|to-first]: reads a plan on standard input and prints what
 //! `./bench` prints for that command. `run` may be left out.
 
 use second::convert::{self, to_first, to_second};
-use second::run;
+use second::{looks, run};
 use std::io::{self, Read, Write};
 use std::process::exit;
 
@@ -11,10 +11,11 @@ fn main() -> io::Result<()> {
     let words: Vec<&str> = words.iter().map(String::as_str).collect();
     let answer: fn(&[u8]) -> Vec<u8> = match words[..] {
         [] | ["run"] => |text| run::answer_bytes(text, u64::MAX),
+        ["check"] => looks::answer_bytes,
         ["to-second"] => |text| convert::answer_bytes(to_second, text),
         ["to-first"] => |text| convert::answer_bytes(to_first, text),
         _ => {
-            eprintln!("usage: second [run|to-second|to-first]");
+            eprintln!("usage: second [run|check|to-second|to-first]");
             exit(2);
         }
     };

@@ -1,8 +1,9 @@
 -- `bench_c::salfunye_check` meets its contract: by the two answers.
 -- Assumes nothing.
 use mathlib.Core.Path.{sym, ap, _∙_}
-use Rattle.bench_c.specs.Numbers.{checkedNumbers}
+use Rattle.bench_c.specs.Numbers.{verdictNumbers, checkedNumbers}
 use borrow.Author.Needs.{needs}
+use Rattle.reader.specs.declared.Checked.{Checked}
 use Rattle.bench_c.proofs.salfunye_check.Statement.{statement}
 use Rattle.bench_c.proofs.salfunye_check.Tie as tie
 
@@ -19,12 +20,15 @@ number-of-requires : tie.Need-number-of-requires
 number-of-requires c κs = search needs
 
 returns : tie.Need-returns
-returns c = ap checkedNumbers (sym (c .enum-told .given .1) ∙ c .before .before .check .ensures .0)
+returns c =
+    let check = c .before .before .check in
+    ap (λ (v : Checked). verdictNumbers v (check .result .looks)) (sym (c .enum-told .given .1)) ∙ ap checkedNumbers (check .ensures .0)
 
 returns-2 : tie.Need-returns-2
 returns-2 c =
-    let answer = c .before .before .before .before .check .ensures .0 in
-    rw (c .number-of .ensures) (ap checkedNumbers (sym (c .before .before .checked .given .1) ∙ answer))
+    let check = c .before .before .before .before .check in
+    let is = ap (λ (v : Checked). verdictNumbers v (check .result .looks)) (sym (c .before .before .checked .given .1)) in
+    rw (c .number-of .ensures) (is ∙ ap checkedNumbers (check .ensures .0))
 
 pub salfunye-check-spec : {M : Type 1} → statement M
 salfunye-check-spec =

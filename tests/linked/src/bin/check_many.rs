@@ -1,19 +1,25 @@
 //! check_many COUNT SEED: holds the proved reader to the second implementation's
-//! on COUNT random and damaged texts.
+//! on COUNT random and damaged texts, and its looks at their bytes to a count.
 
 use linked::arguments::count_and_seed;
+use linked::check::{compare_many, Difference};
 use std::io::Write;
 use std::process::exit;
 
 fn main() {
     let (count, seed) = count_and_seed("check_many");
-    match linked::check::compare(count, seed) {
+    match compare_many(count, seed) {
         Ok(counts) => {
             println!("{count} texts from seed {seed}, no difference");
-            println!("accepted and refused with 1 to 9: {counts:?}");
+            println!("{:9} accepted", counts.accepted);
+            for number in [1, 2, 3, 4, 5, 6, 9] {
+                println!("{:9} refused with {number}", counts.refused[number]);
+            }
+            println!("{:9} refused in one of several lines", counts.of_several);
+            println!("{:9} of these not in the last", counts.before_the_last);
         }
-        Err(text) => {
-            eprintln!("the two readers differ on this text:");
+        Err(Difference { text, what }) => {
+            eprintln!("the readers differ in: {what}\non this text:");
             let _ = std::io::stdout().write_all(&text);
             exit(1);
         }

@@ -33,7 +33,7 @@ fn pass(convert: Converter, texts: &[Vec<u8>]) -> impl FnMut(usize) + '_ {
 
 /// The check, with the arguments of a converter.
 fn checked(text: &[u8], _: &mut [u8]) -> Result<usize, Refusal> {
-    bench::check(text).map(|()| 0)
+    bench::check(text).verdict.map(|()| 0)
 }
 
 fn second_checked(text: &[u8], _: &mut [u8]) -> Result<usize, Refusal> {

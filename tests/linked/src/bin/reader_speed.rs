@@ -2,6 +2,7 @@
 //! same texts, in one run: plans of 65,536 bytes, and short texts, accepted
 //! and refused in their last line. Neither clears any buffer between.
 
+use linked::bench;
 use linked::speed::shortest;
 use second::random::{plan, Rng, Shape};
 use std::hint::black_box;
@@ -19,7 +20,7 @@ fn pass(texts: &[Vec<u8>], accepted: bool, read: impl Fn(&[u8]) -> bool) {
 
 /// The shortest passes of the proved reader and of the second implementation's.
 fn passes(texts: &[Vec<u8>], accepted: bool) -> [f64; 2] {
-    let mut proved = |_| pass(texts, accepted, |text| linked::bench::check(text).is_ok());
+    let mut proved = |_| pass(texts, accepted, |text| bench::check(text).verdict.is_ok());
     let mut second = |_| pass(texts, accepted, |text| second::plan::check(text).is_ok());
     shortest(ROUNDS, [&mut proved, &mut second])
 }

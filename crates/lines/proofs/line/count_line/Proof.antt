@@ -1,10 +1,13 @@
 -- `lines::line::count_line` meets its contract: by what was read of the count. Assumes nothing.
-use mathlib.Core.Path.{sym, _∙_}
+use mathlib.Core.Path.{sym, ap, _∙_}
+use mathlib.Core.Bool.{true}
 use native.Mathlib.Omega.{arith}
 use borrow.Author.Needs.{needs}
 use Rattle.runs.specs.Tests.{or-left, or-right}
+use Rattle.text.specs.Fields.{shape}
+use Rattle.text.specs.FieldLaws.{fields-reach}
 use Rattle.lines.specs.Lines.{countLine}
-use Rattle.lines.proofs.Wholes.{first-told, one-untold, one-goes-on, one-formed, count-judged, bounded}
+use Rattle.lines.proofs.Wholes.{first-told, wrong-looked, one-untold, one-goes-on, one-formed, count-judged, bounded}
 use Rattle.lines.proofs.line.count_line.Statement.{statement}
 use Rattle.lines.proofs.line.count_line.Tie as tie
 
@@ -17,21 +20,31 @@ enum-told c = search needs
 wrong-requires : tie.Need-wrong-requires
 wrong-requires c κs = search needs
 
-enum-known-n : tie.Need-enum-known-n
-enum-known-n c = search needs
+enum-told-2 : tie.Need-enum-told-2
+enum-told-2 c = search needs
 
 wrong-requires-2 : tie.Need-wrong-requires-2
 wrong-requires-2 c κs = search needs
 
+enum-known-n : tie.Need-enum-known-n
+enum-known-n c = search needs
+
+wrong-requires-3 : tie.Need-wrong-requires-3
+wrong-requires-3 c κs = search needs
+
 returns : tie.Need-returns
-returns c p inRange order at-start before coded =
+returns c =
     let number = c .before .before .before in
-    let start = number .before .before .before .before in
+    let start = number .before .before .before .before .before in
     let read = number .before .before .read-number in
-    let t = first-told (start .args .text .now) (start .args .at) (start .pre .0) (read .result) (read .ensures) (number .n .given .1)
-    (c .before .if1 .taken) in
-    one-goes-on (start .args .text .now) (start .args .at) (start .pre .0) p (c .wrong2 .ensures)
-    (countLine p inRange (start .args .most) order) t
+    let is = number .n .given .1 in
+    let t = first-told (start .args .text .now) (start .args .at) (start .pre .0) (read .result) (read .ensures .0) is
+    (c .before .if1 .taken) in (
+      λ p inRange order at-start before coded.
+          one-goes-on (start .args .text .now) (start .args .at) (start .pre .0) p (c .wrong3 .ensures)
+          (countLine p inRange (start .args .most) order) t,
+      wrong-looked (c .wrong3 .ensures) (rw (rw is at (read .ensures .1)) (fields-reach true (t .fields))),
+    )
 
 outside-requires : tie.Need-outside-requires
 outside-requires c κs = search needs
@@ -42,7 +55,7 @@ either-requires c κs = search needs
 order-line-requires : tie.Need-order-line-requires
 order-line-requires c κs e =
     let number = c .before .before .before .before in
-    let start = number .before .before .before .before in
+    let start = number .before .before .before .before .before in
     let far = c .before .outside in
     let in-range = sym (c .either .ensures) ∙ e in (
       omega (
@@ -55,26 +68,45 @@ order-line-requires c κs e =
     )
 
 returns-2 : tie.Need-returns-2
-returns-2 c p inRange order at-start before coded =
-    let start = c .before .before .before .before .before in
+returns-2 c =
+    let start = c .before .before .before .before .before .before in
     let read = c .before .before .before .read-number in
-    one-untold (start .args .text .now) (start .args .at) (start .pre .0) p (c .wrong .ensures)
-    (countLine p inRange (start .args .most) order) (read .result) (read .ensures) (c .before .enum-told .given .1)
+    let is = c .before .enum-told .given .1 in (
+      λ p inRange order at-start before coded.
+          one-untold (start .args .text .now) (start .args .at) (start .pre .0) p (c .wrong .ensures) (countLine p inRange (start .args .most) order) (read .result)
+          (read .ensures .0) (ap shape is),
+      wrong-looked (c .wrong .ensures) (rw is at (read .ensures .1)),
+    )
 
 returns-3 : tie.Need-returns-3
-returns-3 c p inRange order at-start before coded =
+returns-3 c =
+    let start = c .before .before .before .before .before .before in
+    let read = c .before .before .before .read-number in
+    let is = c .before .enum-told2 .given .1 in (
+      λ p inRange order at-start before coded.
+          one-untold (start .args .text .now) (start .args .at) (start .pre .0) p (c .wrong2 .ensures) (countLine p inRange (start .args .most) order) (read .result)
+          (read .ensures .0) (ap shape is),
+      wrong-looked (c .wrong2 .ensures) (rw is at (read .ensures .1)),
+    )
+
+returns-4 : tie.Need-returns-4
+returns-4 c =
     let number = c .before .before .before .before .before in
-    let start = number .before .before .before .before in
+    let start = number .before .before .before .before .before in
     let read = number .before .before .read-number in
-    let t = first-told (start .args .text .now) (start .args .at) (start .pre .0) (read .result) (read .ensures) (number .n .given .1)
+    let told = number .n .given in
+    let t = first-told (start .args .text .now) (start .args .at) (start .pre .0) (read .result) (read .ensures .0) (told .1)
     (c .before .before .before .if1 .left) in
-    let is = number .n .given .0 in
     let a = start .args in
     let far = c .before .before .outside in
     let out = c .before .either in
-    one-formed (countLine p inRange (a .most) order) t
-    (count-judged p (a .misplaced) at-start (is .1 .1 .0) inRange (a .most) order (t .number) (is .0) (a .who) (a .out) (far .result)
-    (out .result) (start .pre .1) (t .held) before (far .ensures) (out .ensures) coded (c .order-line .ensures))
+    let line = c .order-line .ensures in (
+      λ p inRange order at-start before coded.
+          one-formed (countLine p inRange (a .most) order) t
+          (count-judged p (a .misplaced) at-start (told .0 .1 .1 .0) inRange (a .most) order (t .number) (told .0 .0) (a .who) (a .out)
+          (far .result) (out .result) (start .pre .1) (t .held) before (far .ensures) (out .ensures) coded line),
+      rw (line .kind, line .after) (rw (told .1) at (read .ensures .1)),
+    )
 
 pub count-line-spec : {M : Type 1} → statement M
 count-line-spec =
@@ -83,11 +115,14 @@ count-line-spec =
     read-number-requires
     enum-told
     wrong-requires
-    enum-known-n
+    enum-told-2
     wrong-requires-2
+    enum-known-n
+    wrong-requires-3
     returns
     outside-requires
     either-requires
     order-line-requires
     returns-2
-    returns-3)
+    returns-3
+    returns-4)

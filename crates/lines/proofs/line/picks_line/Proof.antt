@@ -1,11 +1,16 @@
--- `lines::line::picks_line` meets its contract: by what was read of its first number, before the count. Assumes nothing.
+-- `lines::line::picks_line` meets its contract: by what was read of the worker, and of the count after it. Assumes nothing.
+use mathlib.Core.Path.{ap}
+use mathlib.Core.Bool.{true, false}
 use native.Mathlib.Omega.{arith}
-use borrow.Author.Needs.{needs}
-use borrow.Author.Tests.{not-true, not-false, leb-false}
 use lib.Dec.{ltb}
+use borrow.Author.Needs.{needs}
+use borrow.Author.Tests.{leb-false, not-true, not-false}
+use Rattle.text.specs.Fields.{shape}
+use Rattle.text.specs.FieldLaws.{fields-reach}
 use Rattle.plan.specs.Plan.{picks}
 use Rattle.plan.specs.Line.{picksLine}
-use Rattle.lines.proofs.Wholes.{first-told, two-untold, two-ends, two-formed, none-yet, worker-range, worker-coded}
+use Rattle.lines.proofs.Wholes.{first-told, line-looked, wrong-looked, two-untold, two-ends, two-formed}
+use Rattle.lines.proofs.Wholes.{none-yet, worker-range, worker-coded}
 use Rattle.lines.proofs.line.picks_line.Statement.{statement}
 use Rattle.lines.proofs.line.picks_line.Tie as tie
 
@@ -18,49 +23,83 @@ enum-told c = search needs
 wrong-requires : tie.Need-wrong-requires
 wrong-requires c κs = search needs
 
-enum-known-worker : tie.Need-enum-known-worker
-enum-known-worker c = search needs
+enum-told-2 : tie.Need-enum-told-2
+enum-told-2 c = search needs
 
 wrong-requires-2 : tie.Need-wrong-requires-2
 wrong-requires-2 c κs = search needs
 
+enum-known-worker : tie.Need-enum-known-worker
+enum-known-worker c = search needs
+
+wrong-requires-3 : tie.Need-wrong-requires-3
+wrong-requires-3 c κs = search needs
+
 returns : tie.Need-returns
-returns c p sums =
+returns c =
     let first = c .before .before .before in
-    let start = first .before .before .before .before in
+    let start = first .before .before .before .before .before in
     let read = first .before .before .read-number in
-    let t = first-told (start .args .text .now) (start .args .at) (start .pre .0) (read .result) (read .ensures) (first .worker .given .1)
-    (not-true _ (c .before .if1 .taken)) in
-    two-ends (start .args .text .now) (start .args .at) (start .pre .0) p (c .wrong2 .ensures) (picksLine p) t
+    let is = first .worker .given .1 in
+    let t = first-told (start .args .text .now) (start .args .at) (start .pre .0) (read .result) (read .ensures .0) is
+    (not-true _ (c .before .if1 .taken)) in (
+      λ p sums. two-ends (start .args .text .now) (start .args .at) (start .pre .0) p (c .wrong3 .ensures) (picksLine p) t,
+      wrong-looked (c .wrong3 .ensures) (rw (rw is at (read .ensures .1)) (fields-reach false (t .fields))),
+    )
 
 count-line-requires : tie.Need-count-line-requires
 count-line-requires c κs =
-    let first = c .before .before .before .before in
-    let start = first .before .before .before .before in
+    let first = c .before .before .before .before .before in
+    let start = first .before .before .before .before .before in
     let read = first .before .before .read-number in
-    let t = first-told (start .args .text .now) (start .args .at) (start .pre .0) (read .result) (read .ensures) (first .worker .given .1)
-    (not-false _ (c .before .before .if1 .left)) in
-    (t .fields .within, omega arith, λ e. omega (arith, leb-false (start .args .sofar .workers) (first .worker .given .0 .0) e))
+    let is = first .worker .given .1 in
+    let t = first-told (start .args .text .now) (start .args .at) (start .pre .0) (read .result) (read .ensures .0) is
+    (not-false _ (c .before .before .before .if1 .left)) in (
+      t .fields .within,
+      omega arith,
+      λ e. omega (arith, start .pre .1, leb-false (start .args .sofar .workers) (first .worker .given .0 .0) e),
+      rw is at (read .ensures .1),
+    )
 
 returns-2 : tie.Need-returns-2
-returns-2 c p sums =
-    let start = c .before .before .before .before .before in
+returns-2 c =
+    let start = c .before .before .before .before .before .before in
     let read = c .before .before .before .read-number in
-    two-untold (start .args .text .now) (start .args .at) (start .pre .0) p (c .wrong .ensures) (picksLine p) (read .result) (read .ensures)
-    (c .before .enum-told .given .1)
+    let is = c .before .enum-told .given .1 in (
+      λ p sums.
+          two-untold (start .args .text .now) (start .args .at) (start .pre .0) p (c .wrong .ensures) (picksLine p) (read .result)
+          (read .ensures .0) (ap shape is),
+      wrong-looked (c .wrong .ensures) (rw is at (read .ensures .1)),
+    )
 
 returns-3 : tie.Need-returns-3
-returns-3 c p sums =
-    let first = c .before .before .before .before .before in
-    let start = first .before .before .before .before in
+returns-3 c =
+    let start = c .before .before .before .before .before .before in
+    let read = c .before .before .before .read-number in
+    let is = c .before .enum-told2 .given .1 in (
+      λ p sums.
+          two-untold (start .args .text .now) (start .args .at) (start .pre .0) p (c .wrong2 .ensures) (picksLine p) (read .result)
+          (read .ensures .0) (ap shape is),
+      wrong-looked (c .wrong2 .ensures) (rw is at (read .ensures .1)),
+    )
+
+returns-4 : tie.Need-returns-4
+returns-4 c =
+    let first = c .before .before .before .before .before .before in
+    let start = first .before .before .before .before .before in
     let read = first .before .before .read-number in
-    let t = first-told (start .args .text .now) (start .args .at) (start .pre .0) (read .result) (read .ensures) (first .worker .given .1)
-    (not-false _ (c .before .before .before .if1 .left)) in
+    let is = first .worker .given .1 in
+    let t = first-told (start .args .text .now) (start .args .at) (start .pre .0) (read .result) (read .ensures .0) is
+    (not-false _ (c .before .before .before .before .if1 .left)) in
     let worker = first .worker .given .0 .0 in
-    two-formed (picksLine p) t
-    (c .count-line .ensures p (ltb (t .number) (p .workers)) (picks (t .number)) (none-yet sums)
-    (worker-range (start .args .sofar) p sums (start .pre .1) (t .number) worker (t .held))
-    (worker-coded (start .args .sofar) p sums (start .pre .1) (t .number) worker (t .held)))
+    let rest = c .count-line in (
+      λ p sums.
+          two-formed (picksLine p) t
+          (rest .ensures .0 p (ltb (t .number) (p .workers)) (picks (t .number)) (none-yet sums)
+          (worker-range (start .args .sofar) p sums (start .pre .1) (t .number) worker (t .held))
+          (worker-coded (start .args .sofar) p sums (start .pre .1) (t .number) worker (t .held))),
+      line-looked (fields-reach true (t .fields)) (rest .result) (rest .last .1 .1 .1 .1 .1 .1 .1 .0) (rest .ensures .1),
+    )
 
 pub picks-line-spec : {M : Type 1} → statement M
 picks-line-spec =
@@ -69,9 +108,12 @@ picks-line-spec =
     read-number-requires
     enum-told
     wrong-requires
-    enum-known-worker
+    enum-told-2
     wrong-requires-2
+    enum-known-worker
+    wrong-requires-3
     returns
     count-line-requires
     returns-2
-    returns-3)
+    returns-3
+    returns-4)

@@ -11,7 +11,9 @@ count-line-requires : tie.Need-count-line-requires
 count-line-requires c κs = search needs
 
 returns : tie.Need-returns
-returns c p sums = c .count-line .ensures p true rounds (none-yet sums) refl (λ q n. (refl, refl))
+returns c =
+    let line = c .count-line .ensures in
+    (λ p sums. line .0 p true rounds (none-yet sums) refl (λ q n. (refl, refl)), line .1)
 
 pub rounds-line-spec : {M : Type 1} → statement M
 rounds-line-spec = tie.close (tie.spec count-line-requires returns)

@@ -1,13 +1,15 @@
--- `lines::line::seeded_line` meets its contract: by what was read of its first number, before the count. Assumes nothing.
+-- `lines::line::seeded_line` meets its contract: by what was read of the seed, and of the count after it. Assumes nothing.
 use mathlib.Core.Path.{ap}
-use mathlib.Core.Bool.{not}
+use mathlib.Core.Bool.{true, false, not}
 use native.Mathlib.Omega.{arith}
 use borrow.Author.Needs.{needs}
 use borrow.Author.Tests.{not-true, not-false}
-use Rattle.text.specs.Fields.{fitsIn}
+use Rattle.text.specs.Fields.{shape, fitsIn}
+use Rattle.text.specs.FieldLaws.{fields-reach}
 use Rattle.plan.specs.Plan.{seeded}
 use Rattle.plan.specs.Line.{seededLine}
-use Rattle.lines.proofs.Wholes.{first-told, two-untold, two-ends, two-formed, none-yet, seed-coded}
+use Rattle.lines.proofs.Wholes.{first-told, line-looked, wrong-looked, two-untold, two-ends, two-formed}
+use Rattle.lines.proofs.Wholes.{none-yet, seed-coded}
 use Rattle.lines.proofs.line.seeded_line.Statement.{statement}
 use Rattle.lines.proofs.line.seeded_line.Tie as tie
 
@@ -20,47 +22,77 @@ enum-told c = search needs
 wrong-requires : tie.Need-wrong-requires
 wrong-requires c κs = search needs
 
-enum-known-seed : tie.Need-enum-known-seed
-enum-known-seed c = search needs
+enum-told-2 : tie.Need-enum-told-2
+enum-told-2 c = search needs
 
 wrong-requires-2 : tie.Need-wrong-requires-2
 wrong-requires-2 c κs = search needs
 
+enum-known-seed : tie.Need-enum-known-seed
+enum-known-seed c = search needs
+
+wrong-requires-3 : tie.Need-wrong-requires-3
+wrong-requires-3 c κs = search needs
+
 returns : tie.Need-returns
-returns c p sums =
+returns c =
     let first = c .before .before .before in
-    let start = first .before .before .before .before in
+    let start = first .before .before .before .before .before in
     let read = first .before .before .read-number in
-    let t = first-told (start .args .text .now) (start .args .at) (start .pre) (read .result) (read .ensures) (first .seed .given .1)
-    (not-true _ (c .before .if1 .taken)) in
-    two-ends (start .args .text .now) (start .args .at) (start .pre) p (c .wrong2 .ensures) (seededLine p) t
+    let is = first .seed .given .1 in
+    let t = first-told (start .args .text .now) (start .args .at) (start .pre .0) (read .result) (read .ensures .0) is
+    (not-true _ (c .before .if1 .taken)) in (
+      λ p sums. two-ends (start .args .text .now) (start .args .at) (start .pre .0) p (c .wrong3 .ensures) (seededLine p) t,
+      wrong-looked (c .wrong3 .ensures) (rw (rw is at (read .ensures .1)) (fields-reach false (t .fields))),
+    )
 
 count-line-requires : tie.Need-count-line-requires
 count-line-requires c κs =
-    let first = c .before .before .before in
-    let start = first .before .before .before .before in
+    let first = c .before .before .before .before in
+    let start = first .before .before .before .before .before in
     let read = first .before .before .read-number in
-    let t = first-told (start .args .text .now) (start .args .at) (start .pre) (read .result) (read .ensures) (first .seed .given .1)
-    (not-false _ (c .before .if1 .left)) in
-    (t .fields .within, omega arith, λ e. omega arith)
+    let is = first .seed .given .1 in
+    let t = first-told (start .args .text .now) (start .args .at) (start .pre .0) (read .result) (read .ensures .0) is
+    (not-false _ (c .before .before .if1 .left)) in
+    (t .fields .within, omega arith, λ e. omega arith, rw is at (read .ensures .1))
 
 returns-2 : tie.Need-returns-2
-returns-2 c p sums =
-    let start = c .before .before .before .before .before in
+returns-2 c =
+    let start = c .before .before .before .before .before .before in
     let read = c .before .before .before .read-number in
-    two-untold (start .args .text .now) (start .args .at) (start .pre) p (c .wrong .ensures) (seededLine p) (read .result) (read .ensures)
-    (c .before .enum-told .given .1)
+    let is = c .before .enum-told .given .1 in (
+      λ p sums.
+          two-untold (start .args .text .now) (start .args .at) (start .pre .0) p (c .wrong .ensures) (seededLine p) (read .result)
+          (read .ensures .0) (ap shape is),
+      wrong-looked (c .wrong .ensures) (rw is at (read .ensures .1)),
+    )
 
 returns-3 : tie.Need-returns-3
-returns-3 c p sums =
-    let first = c .before .before .before .before in
-    let start = first .before .before .before .before in
+returns-3 c =
+    let start = c .before .before .before .before .before .before in
+    let read = c .before .before .before .read-number in
+    let is = c .before .enum-told2 .given .1 in (
+      λ p sums.
+          two-untold (start .args .text .now) (start .args .at) (start .pre .0) p (c .wrong2 .ensures) (seededLine p) (read .result)
+          (read .ensures .0) (ap shape is),
+      wrong-looked (c .wrong2 .ensures) (rw is at (read .ensures .1)),
+    )
+
+returns-4 : tie.Need-returns-4
+returns-4 c =
+    let first = c .before .before .before .before .before in
+    let start = first .before .before .before .before .before in
     let read = first .before .before .read-number in
-    let t = first-told (start .args .text .now) (start .args .at) (start .pre) (read .result) (read .ensures) (first .seed .given .1)
-    (not-false _ (c .before .before .if1 .left)) in
-    two-formed (seededLine p) t
-    (c .count-line .ensures p (fitsIn (t .number)) (seeded (t .number)) (none-yet sums) (ap not (t .whole))
-    (seed-coded (t .number) (first .seed .given .0 .0) (t .held)))
+    let is = first .seed .given .1 in
+    let t = first-told (start .args .text .now) (start .args .at) (start .pre .0) (read .result) (read .ensures .0) is
+    (not-false _ (c .before .before .before .if1 .left)) in
+    let rest = c .count-line in (
+      λ p sums.
+          two-formed (seededLine p) t
+          (rest .ensures .0 p (fitsIn (t .number)) (seeded (t .number)) (none-yet sums) (ap not (t .whole))
+          (seed-coded (t .number) (first .seed .given .0 .0) (t .held))),
+      line-looked (fields-reach true (t .fields)) (rest .result) (rest .last .1 .1 .1 .1 .1 .1 .1 .0) (rest .ensures .1),
+    )
 
 pub seeded-line-spec : {M : Type 1} → statement M
 seeded-line-spec =
@@ -69,9 +101,12 @@ seeded-line-spec =
     read-number-requires
     enum-told
     wrong-requires
-    enum-known-seed
+    enum-told-2
     wrong-requires-2
+    enum-known-seed
+    wrong-requires-3
     returns
     count-line-requires
     returns-2
-    returns-3)
+    returns-3
+    returns-4)

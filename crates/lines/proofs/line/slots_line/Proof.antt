@@ -1,8 +1,12 @@
--- `lines::line::slots_line` meets its contract: by what was read of the slots, before the capacity. Assumes nothing.
+-- `lines::line::slots_line` meets its contract: by what was read of the slots, and of the capacity after them. Assumes nothing.
+use mathlib.Core.Path.{ap}
+use mathlib.Core.Bool.{true, false}
 use borrow.Author.Needs.{needs}
 use borrow.Author.Tests.{not-true, not-false}
+use Rattle.text.specs.Fields.{shape}
+use Rattle.text.specs.FieldLaws.{fields-reach}
 use Rattle.lines.specs.Lines.{secondForm}
-use Rattle.lines.proofs.Wholes.{first-told, two-untold, two-ends, two-formed}
+use Rattle.lines.proofs.Wholes.{first-told, line-looked, wrong-looked, two-untold, two-ends, two-formed}
 use Rattle.lines.proofs.line.slots_line.Statement.{statement}
 use Rattle.lines.proofs.line.slots_line.Tie as tie
 
@@ -15,45 +19,74 @@ enum-told c = search needs
 wrong-requires : tie.Need-wrong-requires
 wrong-requires c κs = search needs
 
-enum-known-slots : tie.Need-enum-known-slots
-enum-known-slots c = search needs
+enum-told-2 : tie.Need-enum-told-2
+enum-told-2 c = search needs
 
 wrong-requires-2 : tie.Need-wrong-requires-2
 wrong-requires-2 c κs = search needs
 
+enum-known-slots : tie.Need-enum-known-slots
+enum-known-slots c = search needs
+
+wrong-requires-3 : tie.Need-wrong-requires-3
+wrong-requires-3 c κs = search needs
+
 returns : tie.Need-returns
-returns c p n place workers =
+returns c =
     let number = c .before .before .before in
-    let start = number .before .before .before .before in
+    let start = number .before .before .before .before .before in
     let read = number .before .before .read-number in
-    let t = first-told (start .args .text .now) (start .args .at) (start .pre) (read .result) (read .ensures) (number .slots .given .1)
-    (not-true _ (c .before .if1 .taken)) in
-    two-ends (start .args .text .now) (start .args .at) (start .pre) p (c .wrong2 .ensures) (secondForm p n) t
+    let is = number .slots .given .1 in
+    let t = first-told (start .args .text .now) (start .args .at) (start .pre .0) (read .result) (read .ensures .0) is
+    (not-true _ (c .before .if1 .taken)) in (
+      λ p n place workers. two-ends (start .args .text .now) (start .args .at) (start .pre .0) p (c .wrong3 .ensures) (secondForm p n) t,
+      wrong-looked (c .wrong3 .ensures) (rw (rw is at (read .ensures .1)) (fields-reach false (t .fields))),
+    )
 
 capacity-line-requires : tie.Need-capacity-line-requires
 capacity-line-requires c κs =
-    let number = c .before .before in
-    let start = number .before .before .before .before in
+    let number = c .before .before .before in
+    let start = number .before .before .before .before .before in
     let read = number .before .before .read-number in
-    let t = first-told (start .args .text .now) (start .args .at) (start .pre) (read .result) (read .ensures) (number .slots .given .1)
-    (not-false _ (c .if1 .left)) in
-    t .fields .within
+    let is = number .slots .given .1 in
+    let t = first-told (start .args .text .now) (start .args .at) (start .pre .0) (read .result) (read .ensures .0) is
+    (not-false _ (c .before .if1 .left)) in
+    (t .fields .within, rw is at (read .ensures .1))
 
 returns-2 : tie.Need-returns-2
-returns-2 c p n place workers =
-    let start = c .before .before .before .before .before in
+returns-2 c =
+    let start = c .before .before .before .before .before .before in
     let read = c .before .before .before .read-number in
-    two-untold (start .args .text .now) (start .args .at) (start .pre) p (c .wrong .ensures) (secondForm p n) (read .result) (read .ensures)
-    (c .before .enum-told .given .1)
+    let is = c .before .enum-told .given .1 in (
+      λ p n place workers.
+          two-untold (start .args .text .now) (start .args .at) (start .pre .0) p (c .wrong .ensures) (secondForm p n) (read .result)
+          (read .ensures .0) (ap shape is),
+      wrong-looked (c .wrong .ensures) (rw is at (read .ensures .1)),
+    )
 
 returns-3 : tie.Need-returns-3
-returns-3 c p n place workers =
-    let number = c .before .before .before in
-    let start = number .before .before .before .before in
+returns-3 c =
+    let start = c .before .before .before .before .before .before in
+    let read = c .before .before .before .read-number in
+    let is = c .before .enum-told2 .given .1 in (
+      λ p n place workers.
+          two-untold (start .args .text .now) (start .args .at) (start .pre .0) p (c .wrong2 .ensures) (secondForm p n) (read .result)
+          (read .ensures .0) (ap shape is),
+      wrong-looked (c .wrong2 .ensures) (rw is at (read .ensures .1)),
+    )
+
+returns-4 : tie.Need-returns-4
+returns-4 c =
+    let number = c .before .before .before .before in
+    let start = number .before .before .before .before .before in
     let read = number .before .before .read-number in
-    let t = first-told (start .args .text .now) (start .args .at) (start .pre) (read .result) (read .ensures) (number .slots .given .1)
-    (not-false _ (c .before .if1 .left)) in
-    two-formed (secondForm p n) t (c .capacity-line .ensures p n (t .number) place workers (t .held))
+    let is = number .slots .given .1 in
+    let t = first-told (start .args .text .now) (start .args .at) (start .pre .0) (read .result) (read .ensures .0) is
+    (not-false _ (c .before .before .if1 .left)) in
+    let rest = c .capacity-line in (
+      λ p n place workers. two-formed (secondForm p n) t (rest .ensures .0 p n (t .number) place workers (t .held)),
+      line-looked (fields-reach true (t .fields)) (rest .result) (rest .last .1 .1 .1 .1 .1 .0) (rest .ensures .1),
+    )
 
 pub slots-line-spec : {M : Type 1} → statement M
 slots-line-spec =
@@ -62,9 +95,12 @@ slots-line-spec =
     read-number-requires
     enum-told
     wrong-requires
-    enum-known-slots
+    enum-told-2
     wrong-requires-2
+    enum-known-slots
+    wrong-requires-3
     returns
     capacity-line-requires
     returns-2
-    returns-3)
+    returns-3
+    returns-4)

@@ -1,63 +1,77 @@
 -- `text::read::read_number` meets its contract: by the first byte. Assumes nothing.
 use borrow.Author.Needs.{needs}
-use mathlib.Core.Path.{_∙_}
+use Prim.Native.Nat.{_+_, _<_}
+use mathlib.Core.Path.{_≡_, sym, _∙_}
 use native.Mathlib.Omega.{arith}
-use Rattle.text.proofs.Reading.{number-zero, number-low, number-high, number-digit}
+use lib.ListN.{length}
+use Rattle.text.specs.LineEnds.{reaches-feed, reaches-other, look-within}
+use Rattle.text.specs.FieldLaws.{byte-within}
+use Rattle.text.proofs.Reading.{number-low, number-high, number-digit, looked-after}
 use Rattle.text.proofs.read.read_number.Statement.{statement}
 use Rattle.text.proofs.read.read_number.Tie as tie
 
 look-requires : tie.Need-look-requires
 look-requires c κs = search needs
 
-add-look : tie.Need-add-look
-add-look c = search needs
-
-look-requires-2 : tie.Need-look-requires-2
-look-requires-2 c κs = search needs
-
-add-end-number : tie.Need-add-end-number
-add-end-number c = search needs
-
-end-number-requires : tie.Need-end-number-requires
-end-number-requires c κs = search needs
-
 returns : tie.Need-returns
 returns c =
-    let start = c .before .before .before .before .before .args in
-    c .end-number .ensures ∙ rw (c .before .look2 .ensures) (number-zero (start .text .now) (start .at) (omega arith))
+    let start = c .before .before .before .before .before in
+    let a = start .args in
+    let seen = c .before .before .look .ensures in (
+      number-low (a .text .now) (a .at) (omega (arith, seen .0)),
+      rw (seen .1) (reaches-feed (a .text .now) (a .at) (start .pre .0) (sym (seen .0) ∙ c .if2 .taken)),
+    )
 
 returns-2 : tie.Need-returns-2
 returns-2 c =
-    let start = c .before .before .before .before .args in
-    number-low (start .text .now) (start .at) (omega arith)
+    let start = c .before .before .before .before .before in
+    let a = start .args in
+    let seen = c .before .before .look .ensures in (
+      number-low (a .text .now) (a .at) (omega (arith, seen .0)),
+      rw (seen .1) (reaches-other (a .text .now) (a .at) (start .pre .0) (omega (arith, seen .0))),
+    )
 
 returns-3 : tie.Need-returns-3
 returns-3 c =
-    let start = c .before .before .before .before .before .args in
-    number-high (start .text .now) (start .at) (omega arith)
+    let start = c .before .before .before .before .before in
+    let a = start .args in
+    let seen = c .before .before .look .ensures in (
+      number-high (a .text .now) (a .at) (omega (arith, seen .0)),
+      rw (seen .1) (reaches-other (a .text .now) (a .at) (start .pre .0) (omega (arith, seen .0))),
+    )
+
+-- the place after the first digit
+after-first : (c : tie.Else3) → let a = c .before .before .before .before .before .args in
+    (a .at < length (a .text .now)) × (c .before .before .look .last .1 .1 .0 ≡ a .at + 1)
+after-first c =
+    let a = c .before .before .before .before .before .args in
+    let seen = c .before .before .look .ensures in
+    let here : a .at < length (a .text .now) = byte-within (a .text .now) (a .at) (omega (arith, seen .0)) in
+    (here, seen .1 ∙ look-within (a .text .now) (a .at) here)
 
 add-more-digits : tie.Need-add-more-digits
 add-more-digits c = search needs
 
 more-digits-requires : tie.Need-more-digits-requires
-more-digits-requires c κs = search needs
+more-digits-requires c κs = let first = after-first (c .before) in (omega (arith, first .0), first .1)
 
 returns-4 : tie.Need-returns-4
 returns-4 c =
-    let start = c .before .before .before .before .before .before .args in
+    let start = c .before .before .before .before .before .before .before in
+    let a = start .args in
     let seen = c .before .before .before .before .look .ensures in
-    c .more-digits .ensures
-    ∙ rw seen (number-digit (start .text .now) (start .at) (omega arith) (omega arith) (rw seen at (c .before .before .before .if1 .left)))
+    let rest = c .more-digits in
+    let first = after-first (c .before .before) in
+    let on = rw (sym (seen .1) ∙ first .1) at (reaches-other (a .text .now) (a .at) (start .pre .0) (omega (arith, seen .0))) in (
+      rw (seen .0) at (rest .ensures .0) ∙ number-digit (a .text .now) (a .at) (omega (arith, seen .0)) (omega (arith, seen .0)),
+      looked-after on (rest .result) (rest .last .1 .1 .1 .0) (rest .ensures .1),
+    )
 
 pub read-number-spec : {M : Type 1} → statement M
 read-number-spec =
     tie.close
     (tie.spec
     look-requires
-    add-look
-    look-requires-2
-    add-end-number
-    end-number-requires
     returns
     returns-2
     returns-3
