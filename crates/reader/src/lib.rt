@@ -1,9 +1,7 @@
 // Reads plan texts: see the specs of `plan` for what a text means, and specs/Verdict.antt here for what is answered.
 ghost use mathlib.Core.Path.{_≡_};
 ghost use Prim.Native.Nat.{_≤_};
-ghost use mathlib.Core.Bool.{cond};
 ghost use lib.ListN.{length};
-ghost use Rattle.text.specs.LineEnds.{lineEnd};
 ghost use Rattle.plan.specs.Plan.{emptyPlan};
 ghost use Rattle.plan.specs.Reading.{reading};
 ghost use Rattle.kept.specs.Layout as lay;
@@ -65,18 +63,6 @@ fn refused(refusal: Refusal, line: u64, looks: u64) -> ReadPlan
         tasks: 0,
         orders: 0,
     }
-}
-
-// Refuses a line of which so many bytes of the text are looked at; where it goes on, it is looked at to its end.
-fn refuse_line(text: &[u8], refusal: Refusal, line: u64, more: bool, seen: u64) -> ReadPlan
-    requires { ⌜ seen ≤ length (now text) ⌝ }
-    ensures { λ r. ⌜ r ≡ noPlan refusal line (cond more (lineEnd (now (text .entry)) seen) seen) ⌝ }
-{
-    let mut looks = seen;
-    if more {
-        rest_of_line(text, seen as usize, &mut looks);
-    }
-    refused(refusal, line, looks)
 }
 
 fn no_lines() -> Sofar
@@ -178,7 +164,10 @@ fn read_lines(text: &[u8], rows: &mut [u64], orders: &mut [u64]) -> ReadPlan
         number += 1;
     }
     if let Fault::Is(refusal) = fault {
-        return refuse_line(text, refusal, number, more, looks);
+        if more {
+            rest_of_line(text, looks as usize, &mut looks);
+        }
+        return refused(refusal, number, looks);
     }
     if sofar.workers == 0 {
         return refused(Refusal::Misplaced, number, looks);

@@ -125,7 +125,7 @@ fn checked(seed: u64) -> String {
     };
     format!(
         "check-{seed} : told (check ({}))\n    ≡ record {{ number = {number}; values = {} }}\n\
-         unfolding computed\ncheck-{seed} = refl\n\n",
+         unfolding computed linesSize\ncheck-{seed} = refl\n\n",
         list(&text, None),
         list(&values, None),
     )
@@ -181,7 +181,7 @@ fn module(first: u64, count: u64) -> String {
         REFUSALS.join(", ")
     );
     out.push_str("use Rattle.play.specs.declared.Answer.the-variants.{Reports, Refuses}\nuse Rattle.play.specs.Outcome.{written}\nuse Rattle.bench.specs.Answer.{check, run, played}\nuse Rattle.bench.specs.Computed.{computed}\n");
-    out.push_str("use Rattle.reader.specs.Verdict.{told}\n");
+    out.push_str("use Rattle.text.specs.LineEnds.{linesSize}\nuse Rattle.reader.specs.Verdict.{told}\n");
     out.push_str("use Rattle.tools.specs.declared.Answer.the-variants as tools\nuse Rattle.tools.specs.Result.{written as converted}\nuse Rattle.convert.specs.Convert.{afterLine, toSecond, toFirst}\n\n");
     for seed in first..first + count {
         out.push_str(&checked(seed));
@@ -215,7 +215,7 @@ fn lay_out(root: &Path, text: &str) -> std::io::Result<PathBuf> {
     let listed = std::fs::read_to_string(root.join("crates.txt"))?;
     std::fs::write(
         room.join("crates.txt"),
-        format!("{listed}\ncompared: refusals reader play bench tools convert\n"),
+        format!("{listed}\ncompared: text refusals reader play bench tools convert\n"),
     )?;
     let compared = room.join("crates/compared");
     std::fs::create_dir_all(compared.join("src"))?;

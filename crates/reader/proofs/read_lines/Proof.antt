@@ -9,7 +9,7 @@ use lib.ListN.{length}
 use Rattle.refusals.specs.declared.Refusal.{Refusal}
 use Rattle.refusals.specs.declared.Refusal.the-variants.{Malformed}
 use Rattle.runs.specs.Update.{clash}
-use Rattle.text.specs.LineEnds.{Reaches, reaches-on}
+use Rattle.text.specs.LineEnds.{lineEnd, Reaches, reaches-on}
 use Rattle.plan.specs.Plan.{Plan}
 use Rattle.plan.specs.PassFields.{accessShape}
 use Rattle.plan.specs.Reading.{refused}
@@ -227,29 +227,35 @@ lines-again c =
 enum-known-fault : tie.Need-enum-known-fault Inv-loop μ-loop Inv-lines μ-lines
 enum-known-fault c = search needs
 
-refuse-line-requires : tie.Need-refuse-line-requires Inv-loop μ-loop Inv-lines μ-lines
-refuse-line-requires c κs =
-    let f = c .before .fault .given in
-    left (c .before .before .before) .1 (f .0 .0) (f .1) .1 .within
+rest-of-line-requires : tie.Need-rest-of-line-requires Inv-loop μ-loop Inv-lines μ-lines
+rest-of-line-requires c κs =
+    let f = c .before .before .before .fault .given in
+    (left (c .before .before .before .before .before) .1 (f .0 .0) (f .1) .1 .within, refl)
+
+refused-requires : tie.Need-refused-requires Inv-loop μ-loop Inv-lines μ-lines
+refused-requires c κs = search needs
 
 same-length : tie.Need-same-length Inv-loop μ-loop Inv-lines μ-lines
-same-length c = tasks-length (c .before .before .before .before .before .lines .inv .2 .rows)
+same-length c = tasks-length (c .before .before .before .before .before .before .lines .inv .2 .rows)
 
 same-length-2 : tie.Need-same-length-2 Inv-loop μ-loop Inv-lines μ-lines
-same-length-2 c = orders-length (c .before .before .before .before .before .lines .inv .2 .lines)
+same-length-2 c = orders-length (c .before .before .before .before .before .before .lines .inv .2 .lines)
 
 returns : tie.Need-returns Inv-loop μ-loop Inv-lines μ-lines
 returns c =
-    let o = c .before .before .before .before .before in
-    let f = c .before .before .fault .given in
-    let why = left (c .before .before .before .before) .1 (f .0 .0) (f .1) in
-    gives-refused (o .lines .inv .2) (start o .pre) (f .0 .0) (why .0) (why .1 .line) (c .refuse-line .ensures)
+    let o = c .before .before .before .before .before .before in
+    let f = c .before .before .before .fault .given in
+    let (why, up-to) = left (c .before .before .before .before .before) .1 (f .0 .0) (f .1) in
+    let all : c .before .if2 .looks ≡ lineEnd (start o .args .text .now) (o .lines .at) =
+    ⊎-elim (λ w. w .3 ∙ w .2 .ensures ∙ rw (w .0 .taken) at (up-to .line)) (λ w. w .1 ∙ rw (w .0 .left) at (up-to .line))
+    (c .before .if2 .came) in
+    gives-refused (o .lines .inv .2) (start o .pre) (f .0 .0) why all (c .refused .ensures)
 
 enum-told-5 : tie.Need-enum-told-5 Inv-loop μ-loop Inv-lines μ-lines
 enum-told-5 c = search needs
 
-refused-requires : tie.Need-refused-requires Inv-loop μ-loop Inv-lines μ-lines
-refused-requires c κs = search needs
+refused-requires-2 : tie.Need-refused-requires-2 Inv-loop μ-loop Inv-lines μ-lines
+refused-requires-2 c κs = search needs
 
 same-length-3 : tie.Need-same-length-3 Inv-loop μ-loop Inv-lines μ-lines
 same-length-3 c = tasks-length (c .before .before .before .before .before .before .lines .inv .2 .rows)
@@ -261,7 +267,7 @@ returns-2 : tie.Need-returns-2 Inv-loop μ-loop Inv-lines μ-lines
 returns-2 c =
     let o = c .before .before .before .before .before .before in
     let read = left (c .before .before .before .before .before) .0 (c .before .before .before .enum-told5 .given .1) in
-    gives-misplaced (o .lines .inv .2) (start o .pre) (read .0) (c .before .if2 .taken) (read .1) (c .refused .ensures)
+    gives-misplaced (o .lines .inv .2) (start o .pre) (read .0) (c .before .if3 .taken) (read .1) (c .refused2 .ensures)
 
 same-length-5 : tie.Need-same-length-5 Inv-loop μ-loop Inv-lines μ-lines
 same-length-5 c = tasks-length (c .before .before .before .before .before .lines .inv .2 .rows)
@@ -273,7 +279,7 @@ returns-3 : tie.Need-returns-3 Inv-loop μ-loop Inv-lines μ-lines
 returns-3 c =
     let o = c .before .before .before .before .before in
     let read = left (c .before .before .before .before) .0 (c .before .before .enum-told5 .given .1) in
-    gives-accepted (o .lines .inv .2) (start o .pre) (read .0) (c .if2 .left) (c .before .before .before .before .lines-test .looks) (read .1)
+    gives-accepted (o .lines .inv .2) (start o .pre) (read .0) (c .if3 .left) (c .before .before .before .before .lines-test .looks) (read .1)
 
 pub read-lines-spec : {M : Type 1} → statement M
 read-lines-spec =
@@ -307,12 +313,13 @@ read-lines-spec =
     lines-less
     lines-again
     enum-known-fault
-    refuse-line-requires
+    rest-of-line-requires
+    refused-requires
     same-length
     same-length-2
     returns
     enum-told-5
-    refused-requires
+    refused-requires-2
     same-length-3
     same-length-4
     returns-2
