@@ -17,8 +17,8 @@ use Rattle.reader.specs.declared.Checked.the-variants.{Accepted, Refused
 use Rattle.reader.specs.declared.CheckedText.{CheckedText}
 use Rattle.reader.specs.declared.ReadPlan.{ReadPlan}
 
--- how many bytes of a text are looked at, each once: all of them, or those of the lines up to the refused one (with a refusal that is the
--- caller's, line 0, none)
+-- how many bytes of a text are looked at, each once: all of them, or those of the lines up to the refused one (none with line 0, which
+-- has a refusal that is not the plan's)
 abbrev pub looked : List ℕ → Reading → ℕ
 looked text (accepted p) = length text
 looked text (refused r line) = linesSize line text
@@ -53,8 +53,8 @@ told r = toldLooks (r .checked) (r .looks)
 
 -- what is to be told of a text
 abbrev pub toldReading : List ℕ → Reading → Told
-toldReading text (accepted p) = record { number = 0; values = length text ∷ [] }
-toldReading text (refused r line) = record { number = number r; values = line ∷ linesSize line text ∷ [] }
+toldReading text (accepted p) = record { number = 0; values = looked text (accepted p) ∷ [] }
+toldReading text (refused r line) = record { number = number r; values = line ∷ looked text (refused r line) ∷ [] }
 
 abbrev pub toldOf : List ℕ → Told
 toldOf text = toldReading text (reading text)
@@ -75,13 +75,13 @@ abbrev pub outlined : List ℕ → Reading → ReadPlan
 outlined text (accepted p) =
     record {
       checked = Accepted;
-      looks = length text;
+      looks = looked text (accepted p);
       workers = p .workers;
       form = p .form;
       tasks = length (p .tasks);
       orders = length (p .orders);
     }
-outlined text (refused r line) = noPlan r line (linesSize line text)
+outlined text (refused r line) = noPlan r line (looked text (refused r line))
 
 pub outlined-verdict : (text : List ℕ) (x : Reading)
     → checkedText (outlined text x .checked) (outlined text x .looks) ≡ checkedText (checkedAs x) (looked text x)
@@ -99,7 +99,7 @@ lent rows lines = record { rows = rows; lines = lines }
 -- a plan as it was read from a text, and what is kept of it
 pub record Says (text : List ℕ) (before after : Lent) (r : ReadPlan) (p : Plan) : Type 0 where
   pub accepts : r .checked ≡ Accepted
-  pub looks : r .looks ≡ length text
+  pub looks : r .looks ≡ looked text (accepted p)
   pub workers : r .workers ≡ p .workers
   pub form : r .form ≡ p .form
   pub tasks : r .tasks ≡ length (p .tasks)
@@ -115,4 +115,4 @@ Front before after = (ns : List ℕ) × (after ≡ sets before 0 ns)
 abbrev pub Gives : List ℕ → Lent → Lent → ReadPlan → Reading → Type 0
 Gives text before after r (accepted p) = Says text before after r p
 Gives text before after r (refused f line) =
-    (r ≡ noPlan f line (linesSize line text)) × Front (before .rows) (after .rows) × Front (before .lines) (after .lines)
+    (r ≡ noPlan f line (looked text (refused f line))) × Front (before .rows) (after .rows) × Front (before .lines) (after .lines)
