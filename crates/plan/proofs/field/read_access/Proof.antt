@@ -46,9 +46,10 @@ returns c =
     let a = look .before .before .before .args in
     let after = after-letter look (omega arith) (omega arith) in
     let n = c .before .read-number in
+    let is : c .with-address .result ≡ addressed 0 (n .result) = c .with-address .ensures in
     let letter = access-letter (a .text .now) (a .at) false (sym (look .look .ensures .0) ∙ c .before .before .before .if1 .taken) in (
-      ap accessShape (c .with-address .ensures) ∙ addressed-shape 0 (n .result) ∙ ap (addressed 0) (n .ensures .0) ∙ letter,
-      rw (c .with-address .ensures) (addressed-looked (after .2) 0 (n .result) (n .last .1 .1 .0) (n .ensures .1)),
+      ap accessShape is ∙ addressed-shape 0 (n .result) ∙ ap (addressed 0) (n .ensures .0) ∙ letter,
+      rw is (addressed-looked (after .2) 0 (n .result) (n .last .1 .1 .0) (n .ensures .1)),
     )
 
 add-read-number-2 : tie.Need-add-read-number-2
@@ -68,9 +69,10 @@ returns-2 c =
     let a = look .before .before .before .args in
     let after = after-letter look (omega arith) (omega arith) in
     let n = c .before .read-number2 in
+    let is : c .with-address2 .result ≡ addressed 1 (n .result) = c .with-address2 .ensures in
     let letter = access-letter (a .text .now) (a .at) true (sym (look .look .ensures .0) ∙ c .before .before .before .if2 .taken) in (
-      ap accessShape (c .with-address2 .ensures) ∙ addressed-shape 1 (n .result) ∙ ap (addressed 1) (n .ensures .0) ∙ letter,
-      rw (c .with-address2 .ensures) (addressed-looked (after .2) 1 (n .result) (n .last .1 .1 .0) (n .ensures .1)),
+      ap accessShape is ∙ addressed-shape 1 (n .result) ∙ ap (addressed 1) (n .ensures .0) ∙ letter,
+      rw is (addressed-looked (after .2) 1 (n .result) (n .last .1 .1 .0) (n .ensures .1)),
     )
 
 returns-3 : tie.Need-returns-3
