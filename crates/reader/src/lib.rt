@@ -118,20 +118,19 @@ fn read_lines(text: &[u8], rows: &mut [u64], orders: &mut [u64]) -> ReadPlan
 {
     let mut sofar = no_lines();
     let mut number: u64 = 1;
-    let mut at: usize = 0;
     let mut looks: u64 = 0;
     let mut more = false;
     let mut fault = Fault::Nothing;
     let mut row = [0u64; layout::TASK_ROW];
-    'lines: while at < text.len() {
-        let line = read_line(text, at, sofar, &mut row, &mut looks);
+    'lines: while (looks as usize) < text.len() {
+        let line = read_line(text, looks as usize, sofar, &mut row, &mut looks);
         let mut accesses = no_accesses();
         more = line.more;
         if is_wrong(line) {
             fault = Fault::Is(Refusal::Malformed);
             break 'lines;
         }
-        at = line.next;
+        let mut at = line.next;
         while more {
             let access = read_access(text, at, &mut looks);
             match access {

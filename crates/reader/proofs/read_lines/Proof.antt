@@ -25,19 +25,19 @@ use Rattle.reader.proofs.read_lines.Statement.{statement}
 use Rattle.reader.proofs.read_lines.Tie as tie
 
 abbrev Inv-loop : tie.InvT-loop
-Inv-loop text rows orders sofar number at₀ looks₀ more₀ row₀ line accesses₀ at looks more row accesses =
+Inv-loop text rows orders sofar number looks₀ more₀ row₀ line accesses₀ at₀ looks more row accesses at =
     (length row ≡ taskRow) × (at ≤ length text) × (looks ≡ at)
     × ((begin : ℕ) (p : Plan) → InLine text begin p line at₀ more₀ accesses₀ row₀ → InLine text begin p line at more accesses row)
 
 abbrev μ-loop : tie.MeasureT-loop
-μ-loop text rows orders sofar number at₀ looks₀ more₀ row₀ line accesses₀ at looks more row accesses = length text - at
+μ-loop text rows orders sofar number looks₀ more₀ row₀ line accesses₀ at₀ looks more row accesses at = length text - at
 
 abbrev Inv-lines : tie.InvT-lines
-Inv-lines text rows₀ orders₀ sofar₀ number₀ at₀ looks₀ more₀ fault₀ row₀ rows orders sofar number at looks more fault row =
-    (length row ≡ taskRow) × (fault ≡ Nothing) × AtLine text (lent rows₀ orders₀) sofar number at (lent rows orders) × (looks ≡ at)
+Inv-lines text rows₀ orders₀ sofar₀ number₀ looks₀ more₀ fault₀ row₀ rows orders sofar number looks more fault row =
+    (length row ≡ taskRow) × (fault ≡ Nothing) × AtLine text (lent rows₀ orders₀) sofar number looks (lent rows orders)
 
 abbrev μ-lines : tie.MeasureT-lines
-μ-lines text rows₀ orders₀ sofar₀ number₀ at₀ looks₀ more₀ fault₀ row₀ rows orders sofar number at looks more fault row = length text - at
+μ-lines text rows₀ orders₀ sofar₀ number₀ looks₀ more₀ fault₀ row₀ rows orders sofar number looks more fault row = length text - looks
 
 -- the outer loop's place before one of the inner loop, and the function's start before that
 abbrev outer : tie.At-loop Inv-loop μ-loop Inv-lines μ-lines → tie.At-lines Inv-loop μ-loop Inv-lines μ-lines
@@ -60,62 +60,62 @@ by-five w f g h i j = ⊎-elim f (⊎-elim g (⊎-elim h (⊎-elim i j))) w
 -- where the ways out of both loops meet: all is read, or a line is refused of which the bytes up to a place were looked at
 left : (c : tie.Left-lines Inv-loop μ-loop Inv-lines μ-lines)
     → let o = c .before .lines in let text = c .before .before .before .before .before .before .args .text .now in
-    (c .lines-test .fault ≡ Nothing → (length text ≤ o .at) × (c .lines-test .looks ≡ o .at))
+    (c .lines-test .fault ≡ Nothing → (length text ≤ o .looks) × (c .lines-test .looks ≡ o .looks))
     × ((r : Refusal) → c .lines-test .fault ≡ Is r →
-    (comes (o .inv .2 .p) (o .number) text (o .at) ≡ refused r (o .number))
-    × Reaches text (o .at) (c .lines-test .more) (c .lines-test .looks))
+    (comes (o .inv .2 .p) (o .number) text (o .looks) ≡ refused r (o .number))
+    × Reaches text (o .looks) (c .lines-test .more) (c .lines-test .looks))
 left c =
     let o = c .before .lines in
     let g = o .inv .2 in
     let text = c .before .before .before .before .before .before .args .text .now in
     by-five (c .lines-test .came)
     (λ w. (
-      λ e. (w .0 .left, w .2 ∙ o .inv .3),
-      λ r e. let q : Nothing ≡ Is r = sym (o .inv .1) ∙ sym (w .4) ∙ e in clash (cc),
+      λ e. (w .0 .left, w .1),
+      λ r e. let q : Nothing ≡ Is r = sym (o .inv .1) ∙ sym (w .3) ∙ e in clash (cc),
     ))
     (λ w. (
-      λ e. let q : Is Malformed ≡ Nothing = sym (w .11) ∙ e in clash (cc),
+      λ e. let q : Is Malformed ≡ Nothing = sym (w .10) ∙ e in clash (cc),
       λ r e.
-          let q : Is Malformed ≡ Is r = sym (w .11) ∙ e in
+          let q : Is Malformed ≡ Is r = sym (w .10) ∙ e in
           let m : Malformed ≡ r = cc in
           let is = sym (w .6 .ensures) ∙ w .7 .taken in (
             rw m at (not-formed g (w .3 .ensures .0) is (w .0 .taken)),
-            rw (w .10, w .9) (wrong-place text (o .at) (w .3 .result) (w .3 .last .1 .1 .1 .1 .0) (w .3 .ensures .1) is),
+            rw (w .9, w .8) (wrong-place text (o .looks) (w .3 .result) (w .3 .last .1 .1 .1 .1 .0) (w .3 .ensures .1) is),
           ),
     ))
     (λ w. (
-      λ e. let q : Is Malformed ≡ Nothing = sym (w .17) ∙ e in clash (cc),
+      λ e. let q : Is Malformed ≡ Nothing = sym (w .16) ∙ e in clash (cc),
       λ r e.
-          let q : Is Malformed ≡ Is r = sym (w .17) ∙ e in
+          let q : Is Malformed ≡ Is r = sym (w .16) ∙ e in
           let m : Malformed ≡ r = cc in
           let hand = in-hand g (w .3 .ensures .0) (sym (w .6 .ensures) ∙ w .7 .left) (w .5 .ensures) (w .8 .inv .3) in
           let in-line = found hand (w .9 .taken) in
           let is = w .13 .given .1 in (
-            rw m at (comes-formless (g .p) (o .number) _ (o .at) (w .0 .taken)
+            rw m at (comes-formless (g .p) (o .number) _ (o .looks) (w .0 .taken)
                 (access-wrong in-line (sym (ap accessShape is) ∙ w .11 .ensures .0))),
-            rw (w .16 ∙ w .9 .taken, w .15) (reaches-on (so-far in-line) (rw is at (w .11 .ensures .1))),
+            rw (w .15 ∙ w .9 .taken, w .14) (reaches-on (so-far in-line) (rw is at (w .11 .ensures .1))),
           ),
     ))
     (λ w. (
-      λ e. let q : Is Malformed ≡ Nothing = sym (w .17) ∙ e in clash (cc),
+      λ e. let q : Is Malformed ≡ Nothing = sym (w .16) ∙ e in clash (cc),
       λ r e.
-          let q : Is Malformed ≡ Is r = sym (w .17) ∙ e in
+          let q : Is Malformed ≡ Is r = sym (w .16) ∙ e in
           let m : Malformed ≡ r = cc in
           let hand = in-hand g (w .3 .ensures .0) (sym (w .6 .ensures) ∙ w .7 .left) (w .5 .ensures) (w .8 .inv .3) in
           let in-line = found hand (w .9 .taken) in
           let is = w .13 .given .1 in (
-            rw m at (comes-formless (g .p) (o .number) _ (o .at) (w .0 .taken)
+            rw m at (comes-formless (g .p) (o .number) _ (o .looks) (w .0 .taken)
                 (access-wrong in-line (sym (ap accessShape is) ∙ w .11 .ensures .0))),
-            rw (w .16, w .15) (reaches-on (so-far in-line) (rw is at (w .11 .ensures .1))),
+            rw (w .15, w .14) (reaches-on (so-far in-line) (rw is at (w .11 .ensures .1))),
           ),
     ))
     (λ w. (
-      λ e. let q : Is (w .12 .given .0 .0) ≡ Nothing = sym (w .12 .given .1) ∙ sym (w .16) ∙ e in clash (cc),
+      λ e. let q : Is (w .12 .given .0 .0) ≡ Nothing = sym (w .12 .given .1) ∙ sym (w .15) ∙ e in clash (cc),
       λ r e.
           let hand = in-hand g (w .3 .ensures .0) (sym (w .6 .ensures) ∙ w .7 .left) (w .5 .ensures) (w .8 .inv .3) in
           let whole-line = found hand (w .9 .left) in (
-            line-refused (o .number) whole-line r (rw (g .sums .tasks) at (sym (w .10 .ensures) ∙ sym (w .16) ∙ e)),
-            rw (w .15 ∙ w .9 .left, w .14 ∙ w .8 .inv .2) (ended-reach whole-line),
+            line-refused (o .number) whole-line r (rw (g .sums .tasks) at (sym (w .10 .ensures) ∙ sym (w .15) ∙ e)),
+            rw (w .14 ∙ w .9 .left, w .13 ∙ w .8 .inv .2) (ended-reach whole-line),
           ),
     ))
 
@@ -124,7 +124,7 @@ one-line : (c : tie.After-keep Inv-loop μ-loop Inv-lines μ-lines)
     → let l = c .before .before .before .before .before .before .before .before in
     let o = outer l .lines in
     let a = start (outer l) .args in
-    (o .at < l .loop .at) × AtLine (a .text .now) (lent (a .rows .now) (a .orders .now)) (c .keep .result) (o .number + 1) (l .loop .at)
+    (o .looks < l .loop .at) × AtLine (a .text .now) (lent (a .rows .now) (a .orders .now)) (c .keep .result) (o .number + 1) (l .loop .at)
     (lent (c .keep .last .1 .1 .1 .0) (c .keep .last .1 .1 .1 .1 .0))
 one-line c =
     let l = c .before .before .before .before .before .before .before .before in
@@ -138,7 +138,7 @@ no-lines-requires : tie.Need-no-lines-requires Inv-loop μ-loop Inv-lines μ-lin
 no-lines-requires c κs = search needs
 
 lines-holds : tie.Need-lines-holds Inv-loop μ-loop Inv-lines μ-lines
-lines-holds c = (refl, refl, text-begins _ _ (c .no-lines .result) (c .no-lines .ensures), refl)
+lines-holds c = (refl, refl, text-begins _ _ (c .no-lines .result) (c .no-lines .ensures))
 
 slice-aggregate-read-line : tie.Need-slice-aggregate-read-line Inv-loop μ-loop Inv-lines μ-lines
 slice-aggregate-read-line c = search needs
@@ -215,14 +215,16 @@ add-number c =
     omega (arith, o .lines .inv .2 .number, o .lines .inv .2 .inside, start o .pre)
 
 lines-less : tie.Need-lines-less Inv-loop μ-loop Inv-lines μ-lines
-lines-less c = omega (arith, one-line (c .before .before .before .before))
+lines-less c =
+    let k = c .before .before .before .before in
+    omega (arith, one-line k, k .before .before .before .before .before .before .before .before .loop .inv .2)
 
 lines-again : tie.Need-lines-again Inv-loop μ-loop Inv-lines μ-lines
 lines-again c =
     let k = c .before .before .before .before in
     let j = k .before .before .before .before in
     let l = j .before .before .before .before .loop in
-    (l .inv .0, j .enum-told4 .given .1, one-line k .1, l .inv .2)
+    (l .inv .0, j .enum-told4 .given .1, rw (l .inv .2) (one-line k .1))
 
 enum-known-fault : tie.Need-enum-known-fault Inv-loop μ-loop Inv-lines μ-lines
 enum-known-fault c = search needs
@@ -246,7 +248,7 @@ returns c =
     let o = c .before .before .before .before .before .before in
     let f = c .before .before .before .fault .given in
     let (why, up-to) = left (c .before .before .before .before .before) .1 (f .0 .0) (f .1) in
-    let all : c .before .if2 .looks ≡ lineEnd (start o .args .text .now) (o .lines .at) =
+    let all : c .before .if2 .looks ≡ lineEnd (start o .args .text .now) (o .lines .looks) =
     ⊎-elim (λ w. w .3 ∙ w .2 .ensures ∙ rw (w .0 .taken) at (up-to .line)) (λ w. w .1 ∙ rw (w .0 .left) at (up-to .line))
     (c .before .if2 .came) in
     gives-refused (o .lines .inv .2) (start o .pre) (f .0 .0) why all (c .refused .ensures)
