@@ -13,7 +13,7 @@ use Rattle.refusals.specs.declared.Refusal.the-variants.{Malformed, Misplaced, 
 use Rattle.runs.specs.Update.{clash}
 use Rattle.runs.specs.Stores.{drop-from}
 use Rattle.text.specs.Text.{lineFeed, split, allOf, numberOf}
-use Rattle.text.specs.LineEnds.{linesSize, lineEnd, Reaches, reaches-on, end-past, lines-more}
+use Rattle.text.specs.LineEnds.{linesSize, lineEnd, Reaches, end-past, lines-more}
 use Rattle.text.specs.Fields.{Cut, endless, cut, fieldOf, answer, First, unended, first, firstLine, Fields, clipped}
 use Rattle.text.specs.FieldLaws.{some-part, field-length, fields-more, fields-reach, line-parts, line-unended}
 use Rattle.plan.specs.declared.field.Access.the-variants as accesses

@@ -1,7 +1,7 @@
 -- `text::read::more_digits` meets its contract: the digits so far say a number n, and after them the field at the place comes to what the
 -- whole field does; each of them was looked at once. The measure is what is left of the text. Assumes nothing.
 use Prim.Native.Nat.{ℕ, _+_, _-_, _*_, _^_, _≤_, _<_}
-use mathlib.Core.Path.{_≡_, refl, sym, ap, _∙_}
+use mathlib.Core.Path.{_≡_, refl, ap, _∙_}
 use mathlib.Core.Bool.{true}
 use mathlib.Core.Logic.{_≢_}
 use native.Mathlib.Omega.{arith}
