@@ -1,10 +1,10 @@
 -- A task's line up to its cost: what was read of it, its row and its fault. Assumes nothing.
 use Prim.Native.Nat.{ℕ, suc, _+_, _≤_, _<_}
 use mathlib.Core.Path.{_≡_, refl, sym, ap, _∙_}
-use mathlib.Core.Bool.{Bool, true, false, not, _||_, Bool·not-not}
+use mathlib.Core.Bool.{Bool, true, false, cond, not, _||_, Bool·not-not}
 use mathlib.Core.List.{List, [], _∷_}
 use mathlib.Core.Logic.{⊎-elim}
-use mathlib.Core.Option.{none}
+use mathlib.Core.Option.{none, some}
 use native.Mathlib.Omega.{arith}
 use lib.Dec.{eqb, leb, ltb, leb·suc-suc}
 use lib.ListN.{length, take, drop, getD, set, replicate, getD-replicate}
@@ -12,17 +12,17 @@ use lib.Seq.{ext-getD, getD-set-same, getD-set-other}
 use borrow.Author.Tests.{eqb-true, eqb-false, lt-ltb}
 use Rattle.runs.specs.Update.{order, clash}
 use Rattle.text.specs.declared.read.Number.{Number}
-use Rattle.text.specs.declared.read.Number.the-variants as numbers
 use Rattle.runs.specs.Tests.{ways}
 use Rattle.text.specs.Text.{numberOf}
-use Rattle.text.specs.Fields.{Cut, endless, cut, fieldOf, answer, asNumber, shape, clipped, Fields}
-use Rattle.text.specs.FieldLaws.{fields-none, fields-more, field-bytes}
+use Rattle.text.specs.LineEnds.{Reaches, reaches-on}
+use Rattle.text.specs.Fields.{cut, fieldOf, said, unsaid, noNumber, ReadNumber, clipped, Fields}
+use Rattle.text.specs.FieldLaws.{fields-none, fields-more, fields-reach, field-bytes}
 use Rattle.plan.specs.declared.field.Label.{Label}
 use Rattle.plan.specs.declared.field.Label.the-variants as labels
 use Rattle.plan.specs.Plan.{Task, Plan}
 use Rattle.plan.specs.Line as plans
 use Rattle.plan.specs.Line.{atStart, hasOrders, isLabel, labelAndCost, taskLine}
-use Rattle.plan.specs.PassFields.{labelBy, asLabel, labelShape}
+use Rattle.plan.specs.PassFields.{noLabel, ReadLabel}
 use Rattle.kept.specs.Tasks.{accessNumbers}
 use Rattle.lines.specs.declared.line.Fault.{Fault}
 use Rattle.lines.specs.declared.line.Kind.the-variants as kinds
@@ -54,45 +54,57 @@ row-begun (a ∷ b ∷ c ∷ row) place size cost l h =
 
 -- ---- the label
 
--- the label that was read at a place
-pub record Named (text : List ℕ) (at len next : ℕ) (more : Bool) : Type 0 where
+-- the label that was read at a place, up to the byte that was looked at last
+pub record Named (text : List ℕ) (at len next : ℕ) (more : Bool) (n : ℕ) : Type 0 where
   pub label : List ℕ
   pub formed : isLabel label ≡ true
   pub size : len ≡ length label
   pub stands : take (length label) (drop at text) ≡ label
   pub fields : Fields text at (label ∷ []) next more
+  pub looked : n ≡ next
 
-module _ (text : List ℕ) (at : ℕ) (in-text : at ≤ length text) (l : Label) (e : labelShape l ≡ asLabel at (fieldOf (drop at text))) where
-  pub label-told : {len next : ℕ} {m more : Bool} → l ≡ labels.Is len next m → m ≡ more → Named text at len next more
-  unfolding answer
-  label-told {len} {next} {m} {more} is goes-on = by (fieldOf (drop at text)) refl (rw goes-on at (rw is at e))
+no-label : {A : Type 0} {len next : ℕ} {m : Bool} (more : Bool) → labels.Is len next m ≡ noLabel more → A
+no-label true e = clash (cc)
+no-label false e = clash (cc)
+
+size-is : (b : Bool) (size len : ℕ) → cond b (some size) none ≡ some len → (b ≡ true) × (size ≡ len)
+size-is true size len e = (refl, cc)
+size-is false size len e = clash (cc)
+
+size-none : (b : Bool) (size : ℕ) → cond b (some size) none ≡ none → b ≡ false
+size-none true size e = clash (cc)
+size-none false size e = refl
+
+module _ {text : List ℕ} {at : ℕ} (in-text : at ≤ length text) {l : Label} {n : ℕ} where
+  pub label-told : ReadLabel text at l n → {len next : ℕ} {m more : Bool} → l ≡ labels.Is len next m → m ≡ more
+      → Named text at len next more n
+  label-told (unsaid y u reach i) is goes-on = no-label y (sym is ∙ i)
+  label-told (said x size y rest e s q i) {len} {next} {m} {more} is goes-on =
+      let (formed, whole) = size-is (isLabel x) (length x) size s in
+      let ends : n ≡ next = cc in
+      let on : y ≡ more = cc in
+      let as-long : size ≡ len = cc in
+      record {
+        label = x;
+        formed = formed;
+        size = sym (whole ∙ as-long);
+        stands = field-bytes text at x y rest e;
+        fields = rw (sym q ∙ ends, on) at (fields-more (fields-none text at in-text) x y rest e);
+        looked = ends;
+      }
+
+  -- the field is no label, and is left where the line goes on or has ended
+  label-untold : ReadLabel text at l n → (more : Bool) → l ≡ noLabel more
+      → Reaches text at more n × ((x : List ℕ) (m : Bool) (rest : List ℕ) → fieldOf (drop at text) ≡ cut x m rest → isLabel x ≡ false)
+  label-untold (said x size y rest e s q i) more is = no-label more (sym i ∙ is)
+  label-untold (unsaid y u reach i) more is =
+      (rw (same y more (sym i ∙ is)) at reach, λ x m rest q. size-none (isLabel x) (length x) (rw q at u))
     where
-      says : (x : List ℕ) (y : Bool) (rest : List ℕ) → fieldOf (drop at text) ≡ cut x y rest → (b : Bool) → isLabel x ≡ b
-          → labels.Is len next more ≡ labelBy b (length x) (at + (length x + 1)) y → Named text at len next more
-      says x y rest q false o e = clash (cc)
-      says x y rest q true o e =
-          let ends : at + (length x + 1) ≡ next = cc in
-          let on : y ≡ more = cc in
-          record {
-            label = x;
-            formed = o;
-            size = cc;
-            stands = field-bytes text at x y rest q;
-            fields = rw (ends, on) at (fields-more (fields-none text at in-text) x y rest q);
-          }
-
-      by : (k : Cut) → fieldOf (drop at text) ≡ k → labels.Is len next more ≡ asLabel at k → Named text at len next more
-      by endless q e = clash (cc)
-      by (cut x y rest) q e = says x y rest q (isLabel x) refl e
-
-  label-untold : labelShape l ≡ labels.Malformed → (x : List ℕ) (more : Bool) (rest : List ℕ) → fieldOf (drop at text) ≡ cut x more rest
-      → isLabel x ≡ false
-  unfolding answer
-  label-untold is x more rest q = by (isLabel x) (rw q at (sym is ∙ e))
-    where
-      by : (b : Bool) → labels.Malformed ≡ labelBy b (length x) (at + (length x + 1)) more → b ≡ false
-      by false e = refl
-      by true e = clash (cc)
+      same : (y more : Bool) → noLabel y ≡ noLabel more → y ≡ more
+      same true true e = refl
+      same true false e = clash (cc)
+      same false true e = clash (cc)
+      same false false e = refl
 
 -- ---- lines that are not of the form
 
@@ -104,23 +116,27 @@ module _ (make : Task → plans.Line) (x : List ℕ) where
   cost-none : (y : List ℕ) → numberOf y ≡ none → (gs : List (List ℕ)) → labelAndCost make (x ∷ y ∷ gs) ≡ none
   cost-none y e gs = rw e (ways (isLabel x) (λ q. rw q) (λ q. rw q))
 
-module _ (text : List ℕ) (at : ℕ) (in-text : at ≤ length text) {p : Plan} {row : List ℕ} {r : Line} {more : Bool}
-    (wrong : r ≡ wrongLine more) where
-  pub head-unlabelled : (l : Label) → labelShape l ≡ asLabel at (fieldOf (drop at text)) → labelShape l ≡ labels.Malformed → TaskHead text at p row r
-  head-unlabelled l e is =
+module _ {text : List ℕ} {at : ℕ} (in-text : at ≤ length text) {p : Plan} {row : List ℕ} {r : Line} {n : ℕ} where
+  pub head-unlabelled : (more : Bool) → r ≡ wrongLine more → {l : Label} → ReadLabel text at l n → l ≡ noLabel more
+      → TaskHead text at p row r n
+  head-unlabelled more wrong so is =
+      let (reach, none-there) = label-untold in-text so more is in
       malformed more wrong
       (formless-next (labelAndCost (taskLine p)) text at (fields-none text at in-text)
-      (λ x m rest q. label-none (taskLine p) x (label-untold text at in-text l e is x m rest q)))
+      (λ x m rest q. label-none (taskLine p) x (none-there x m rest q)))
+      reach
 
-  pub head-ends : {len next : ℕ} → Named text at len next false → TaskHead text at p row r
-  head-ends t = malformed more wrong (rw (t .fields .line))
+  pub head-ends : r ≡ wrongLine false → {len next : ℕ} → Named text at len next false n → TaskHead text at p row r n
+  head-ends wrong t = malformed false wrong (rw (t .fields .line)) (rw (t .looked) (fields-reach false (t .fields)))
 
-  pub head-costless : {len then : ℕ} (t : Named text at len then true) (n : Number) → shape n ≡ asNumber then (fieldOf (drop then text))
-      → shape n ≡ numbers.Malformed → TaskHead text at p row r
-  head-costless t n e is =
+  pub head-costless : (more : Bool) → r ≡ wrongLine more → {len then k : ℕ} (t : Named text at len then true k) {a : Number}
+      → ReadNumber text then a n → a ≡ noNumber more → TaskHead text at p row r n
+  head-costless more wrong t so is =
+      let (reach, none-there) = number-untold (t .fields) so more is in
       malformed more wrong
       (formless-next (labelAndCost (taskLine p)) text at (t .fields)
-      (λ y m rest q. cost-none (taskLine p) (t .label) y (number-untold (t .fields) n e is y m rest q)))
+      (λ y m rest q. cost-none (taskLine p) (t .label) y (none-there y m rest q)))
+      (reaches-on (fields-reach true (t .fields)) reach)
 
 -- ---- a line that is
 
@@ -136,11 +152,11 @@ module _ (s : Sofar) (p : Plan) (sums : Sums s p) where
       (place ∙ rw (sums .workers, sums .orders, some-is (length (p .orders))) (sym (Bool·not-not (atStart p || hasOrders p))))
       (rw is (above-clipped cost 1001 (omega arith) ∙ ap not (leb·suc-suc cost 1000)))
 
-  pub head-begun : {text : List ℕ} {at len then : ℕ} (t : Named text at len then true) {n : ℕ} {fits : Bool} {next : ℕ} {more : Bool}
-      (u : Told text at (t .label ∷ []) n fits next more) (row : List ℕ) → row ≡ bareRow at len n
+  pub head-begun : {text : List ℕ} {at len then k : ℕ} (t : Named text at len then true k) {n : ℕ} {fits : Bool} {next : ℕ} {more : Bool}
+      {looks : ℕ} (u : Told text at (t .label ∷ []) n fits next more looks) (row : List ℕ) → row ≡ bareRow at len n
       → (misplaced : Bool) → misplaced ≡ (eqb (s .workers) 0 || not (eqb (s .orders) 0))
       → (fault : Fault) → fault ≡ firstFault misplaced (ltb 1000 n)
-      → TaskHead text at p row (record { kind = kinds.Task; first = 0; second = 0; fault = fault; next = next; more = more })
+      → TaskHead text at p row (record { kind = kinds.Task; first = 0; second = 0; fault = fault; next = next; more = more }) looks
   unfolding accessNumbers
   head-begun t {n} u row kept misplaced place fault e =
       begun (record {
@@ -149,7 +165,8 @@ module _ (s : Sofar) (p : Plan) (sums : Sums s p) where
         cost = u .number;
         labelled = t .formed;
         number = u .says;
-        fields = u .fields;
+        fields = rw (u .looked) (u .fields);
+        after = sym (u .looked);
         stands = t .stands;
         kept = kept ∙ rw (t .size, u .held);
         judged = head-fault (u .number) n misplaced fault (u .held) place e;

@@ -16,9 +16,9 @@ use Rattle.text.specs.Text.{tab, within, numberOf}
 use Rattle.runs.specs.Tests.{ways, both-left, both-right, not-both}
 use Rattle.runs.specs.Update.{clash}
 use Rattle.text.specs.LineEnds.{Reaches, reaches-on}
-use Rattle.text.specs.Fields.{Cut, endless, cut, fieldOf, answer, asNumber, shape, numberBy, clipped, fitsIn}
+use Rattle.text.specs.Fields.{Cut, endless, cut, fieldOf, said, unsaid, noNumber, ReadNumber, clipped, fitsIn}
 use Rattle.text.specs.Fields.{First, unended, first, behind, firstLine, goesOn, Fields}
-use Rattle.text.specs.FieldLaws.{fields-none, fields-more, fields-endless, line-parts, some-part}
+use Rattle.text.specs.FieldLaws.{fields-none, fields-more, fields-endless, fields-reach, line-parts, some-part}
 use Rattle.plan.specs.declared.form.Form.{Form}
 use Rattle.plan.specs.declared.form.Form.the-variants as forms
 use Rattle.plan.specs.Plan.{Order, picks, seeded, slotsOf, Plan}
@@ -30,11 +30,9 @@ use Rattle.kept.specs.Layout as layout
 use Rattle.kept.specs.Orders.{codeOf, seedOf}
 use Rattle.lines.specs.declared.line.Fault.{Fault}
 use Rattle.lines.specs.declared.line.Fault.the-variants.{Nothing, Is}
-use Rattle.lines.specs.declared.line.Kind.{Kind}
-use Rattle.lines.specs.declared.line.Kind.the-variants as kinds
 use Rattle.lines.specs.declared.line.Sofar.{Sofar}
 use Rattle.lines.specs.declared.line.Line.{Line}
-use Rattle.lines.specs.Lines.{Sums, faultOf, faultIn, firstFault, wrongLine, LookedBy, LineLooked}
+use Rattle.lines.specs.Lines.{Sums, faultOf, faultIn, firstFault, wrongLine}
 use Rattle.lines.specs.Lines.{Formless, Makes, IsWhole, Whole, malformed, formed, readWorkers, Ordered, Coded, countLine}
 
 -- ---- fields after which a line is of no form, whatever follows
@@ -98,89 +96,72 @@ module _ {text : List ℕ} {at : ℕ} {x : List ℕ} {then : ℕ} (so : Fields t
         by unended q h = tt
         by (first fs rest) q h = same-form fs q ∙ h
 
-    pub whole-after : {p : Plan} {r : Line} → Whole text then p form r → Whole text at p all r
-    whole-after (malformed more wrong h) = malformed more wrong (formless-after h)
+    pub whole-after : {p : Plan} {r : Line} {n : ℕ} → Whole text then p form r n → Whole text at p all r n
+    whole-after (malformed more wrong h reach) = malformed more wrong (formless-after h) (reaches-on (fields-reach true so) reach)
     whole-after (formed f) =
         formed (record {
           l = f .l;
           fs = x ∷ f .fs;
           formed = same-form (f .fs) (f .fields .line) ∙ f .formed;
           fields = fields-after (f .fields);
+          after = f .after;
           ended = f .ended;
           whole = f .whole;
           judged = f .judged;
           makes = f .makes;
         })
 
--- ---- looks at the bytes of a line
-
--- those of a line from a place in it on are those of the line, after the ones before the place
-pub line-looked : {text : List ℕ} {at next : ℕ} → Reaches text at true next → (r : Line) (n : ℕ) → LineLooked text next r n
-    → LineLooked text at r n
-line-looked {text} {at} {next} so r n h = by (r .kind) h
-  where
-    by : (k : Kind) → LookedBy k text next (r .more) (r .next) n → LookedBy k text at (r .more) (r .next) n
-    by kinds.Wrong h = reaches-on so h
-    by (kinds.Workers form) h = h
-    by kinds.Task h = h
-    by kinds.Order h = h
-
--- a line that is left at a byte
-pub wrong-looked : {text : List ℕ} {at n : ℕ} {more : Bool} {r : Line} → r ≡ wrongLine more → Reaches text at more n → LineLooked text at r n
-wrong-looked e h = rw e h
-
 -- ---- a number that was read after fields of a line
 
--- the number, and the fields with its own
-pub record Told (text : List ℕ) (at : ℕ) (fs : List (List ℕ)) (value : ℕ) (fits : Bool) (next : ℕ) (more : Bool) : Type 0 where
+-- the number, and the fields with its own, up to the byte that was looked at last
+pub record Told (text : List ℕ) (at : ℕ) (fs : List (List ℕ)) (value : ℕ) (fits : Bool) (next : ℕ) (more : Bool) (n : ℕ) : Type 0 where
   pub digits : List ℕ
   pub number : ℕ
   pub says : numberOf digits ≡ some number
   pub held : value ≡ clipped number
   pub whole : fits ≡ fitsIn number
   pub fields : Fields text at (fs ++ digits ∷ []) next more
+  pub looked : n ≡ next
 
-module _ {text : List ℕ} {at : ℕ} {fs : List (List ℕ)} {then : ℕ} (so : Fields text at fs then true) (n : Number)
-    (e : shape n ≡ asNumber then (fieldOf (drop then text))) where
-  pub number-told : {value : ℕ} {fits : Bool} {next : ℕ} {m more : Bool} → n ≡ numbers.Is value fits next m → m ≡ more
-      → Told text at fs value fits next more
-  unfolding answer
-  number-told {value} {fits} {next} {m} {more} is goes-on = by (fieldOf (drop then text)) refl (rw goes-on at (rw is at e))
+no-number : {A : Type 0} {v next : ℕ} {fits m : Bool} (more : Bool) → numbers.Is v fits next m ≡ noNumber more → A
+no-number true e = clash (cc)
+no-number false e = clash (cc)
+
+module _ {text : List ℕ} {at : ℕ} {fs : List (List ℕ)} {then : ℕ} (so : Fields text at fs then true) {a : Number} {n : ℕ} where
+  pub number-told : ReadNumber text then a n → {value : ℕ} {fits : Bool} {next : ℕ} {m more : Bool} → a ≡ numbers.Is value fits next m
+      → m ≡ more → Told text at fs value fits next more n
+  number-told (unsaid y u reach i) is goes-on = no-number y (sym is ∙ i)
+  number-told (said x v y rest e s q i) {next = next} {more = more} is goes-on =
+      let ends : n ≡ next = cc in
+      let on : y ≡ more = cc in
+      record {
+        digits = x;
+        number = v;
+        says = s;
+        held = cc;
+        whole = cc;
+        fields = rw (sym q ∙ ends, on) at (fields-more so x y rest e);
+        looked = ends;
+      }
+
+  -- the field is no number, and is left where the line goes on or has ended
+  pub number-untold : ReadNumber text then a n → (more : Bool) → a ≡ noNumber more
+      → Reaches text then more n × ((x : List ℕ) (m : Bool) (rest : List ℕ) → fieldOf (drop then text) ≡ cut x m rest → numberOf x ≡ none)
+  number-untold (said x v y rest e s q i) more is = no-number more (sym i ∙ is)
+  number-untold (unsaid y u reach i) more is =
+      (rw (same y more (sym i ∙ is)) at reach, λ x m rest q. rw q at u)
     where
-      says : (x : List ℕ) (y : Bool) (rest : List ℕ) → fieldOf (drop then text) ≡ cut x y rest → (v : Option ℕ) → numberOf x ≡ v
-          → numbers.Is value fits next more ≡ numberBy v (then + (length x + 1)) y → Told text at fs value fits next more
-      says x y rest q none o e = clash (cc)
-      says x y rest q (some v) o e =
-          let ends : then + (length x + 1) ≡ next = cc in
-          let on : y ≡ more = cc in
-          record {
-            digits = x;
-            number = v;
-            says = o;
-            held = cc;
-            whole = cc;
-            fields = rw (ends, on) at (fields-more so x y rest q);
-          }
-
-      by : (k : Cut) → fieldOf (drop then text) ≡ k → numbers.Is value fits next more ≡ asNumber then k
-          → Told text at fs value fits next more
-      by endless q e = clash (cc)
-      by (cut x y rest) q e = says x y rest q (numberOf x) refl e
-
-  pub number-untold : shape n ≡ numbers.Malformed → (x : List ℕ) (more : Bool) (rest : List ℕ) → fieldOf (drop then text) ≡ cut x more rest
-      → numberOf x ≡ none
-  unfolding answer
-  number-untold is x more rest q = by (numberOf x) (rw q at (sym is ∙ e))
-    where
-      by : (v : Option ℕ) → numbers.Malformed ≡ numberBy v (then + (length x + 1)) more → v ≡ none
-      by none e = refl
-      by (some v) e = clash (cc)
+      same : (y more : Bool) → noNumber y ≡ noNumber more → y ≡ more
+      same true true e = refl
+      same true false e = clash (cc)
+      same false true e = clash (cc)
+      same false false e = refl
 
 -- the first field of those that begin at a place
-pub first-told : (text : List ℕ) (at : ℕ) → at ≤ length text → (n : Number) → shape n ≡ asNumber at (fieldOf (drop at text))
-    → {value : ℕ} {fits : Bool} {next : ℕ} {m more : Bool} → n ≡ numbers.Is value fits next m → m ≡ more
-    → Told text at [] value fits next more
-first-told text at h = number-told (fields-none text at h)
+pub first-told : {text : List ℕ} {at : ℕ} → at ≤ length text → {a : Number} {n : ℕ} → ReadNumber text at a n
+    → {value : ℕ} {fits : Bool} {next : ℕ} {m more : Bool} → a ≡ numbers.Is value fits next m → m ≡ more
+    → Told text at [] value fits next more n
+first-told {text} {at} h = number-told (fields-none text at h)
 
 -- ---- the fields of one number, of two, and of a W line
 
@@ -216,35 +197,36 @@ module _ (make : ℕ → Form → plans.Line) (x : List ℕ) where
   second-form v e y gs = rw (e, inForm)
 
 -- lines that are not of their form, by what was read of them
-module _ (text : List ℕ) (at : ℕ) (in-text : at ≤ length text) (p : Plan) {r : Line} {more : Bool} (wrong : r ≡ wrongLine more) where
-  so : Fields text at [] at true
-  so = fields-none text at in-text
+abbrev Untold : List ℕ → ℕ → Plan → (List (List ℕ) → Option plans.Line) → Line → ℕ → Type 0
+Untold text at p form r n =
+    (more : Bool) → r ≡ wrongLine more → (a : Number) → ReadNumber text at a n → a ≡ noNumber more → Whole text at p form r n
 
-  abbrev Untold : (List (List ℕ) → Option plans.Line) → Type 0
-  Untold form = (n : Number) → shape n ≡ asNumber at (fieldOf (drop at text)) → shape n ≡ numbers.Malformed → Whole text at p form r
-
+module _ {text : List ℕ} {at : ℕ} (in-text : at ≤ length text) (p : Plan) {r : Line} {n : ℕ} where
   -- the first field is no number
   untold : (form : List (List ℕ) → Option plans.Line) → ((x : List ℕ) → numberOf x ≡ none → (gs : List (List ℕ)) → form (x ∷ gs) ≡ none)
-      → Untold form
-  untold form h n e is =
-      malformed more wrong (formless-next form text at so (λ x m rest q. h x (number-untold so n e is x m rest q)))
+      → Untold text at p form r n
+  untold form h more wrong a so is =
+      let (reach, none-there) = number-untold (fields-none text at in-text) so more is in
+      malformed more wrong (formless-next form text at (fields-none text at in-text) (λ x m rest q. h x (none-there x m rest q))) reach
 
-  pub one-untold : (make : ℕ → plans.Line) → Untold (oneNumber make)
+  pub one-untold : (make : ℕ → plans.Line) → Untold text at p (oneNumber make) r n
   one-untold make = untold (oneNumber make) (one-none make)
 
-  pub two-untold : (make : ℕ → ℕ → plans.Line) → Untold (twoNumbers make)
+  pub two-untold : (make : ℕ → ℕ → plans.Line) → Untold text at p (twoNumbers make) r n
   two-untold make = untold (twoNumbers make) (two-none make)
 
-  pub in-form-untold : (make : ℕ → Form → plans.Line) → Untold (inForm make)
+  pub in-form-untold : (make : ℕ → Form → plans.Line) → Untold text at p (inForm make) r n
   in-form-untold make = untold (inForm make) (in-form-none make)
 
-  pub one-goes-on : (make : ℕ → plans.Line) {value : ℕ} {fits : Bool} {next : ℕ} → Told text at [] value fits next true
-      → Whole text at p (oneNumber make) r
-  one-goes-on make t = malformed more wrong (formless-next (oneNumber make) text at (t .fields) (λ x m rest q gs. refl))
+  pub one-goes-on : (make : ℕ → plans.Line) → r ≡ wrongLine true → {value : ℕ} {fits : Bool} {next : ℕ}
+      → Told text at [] value fits next true n → Whole text at p (oneNumber make) r n
+  one-goes-on make wrong t =
+      malformed true wrong (formless-next (oneNumber make) text at (t .fields) (λ x m rest q gs. refl))
+      (rw (t .looked) (fields-reach true (t .fields)))
 
-  pub two-ends : (make : ℕ → ℕ → plans.Line) {value : ℕ} {fits : Bool} {next : ℕ} → Told text at [] value fits next false
-      → Whole text at p (twoNumbers make) r
-  two-ends make t = malformed more wrong (rw (t .fields .line))
+  pub two-ends : (make : ℕ → ℕ → plans.Line) → r ≡ wrongLine false → {value : ℕ} {fits : Bool} {next : ℕ}
+      → Told text at [] value fits next false n → Whole text at p (twoNumbers make) r n
+  two-ends make wrong t = malformed false wrong (rw (t .fields .line)) (rw (t .looked) (fields-reach false (t .fields)))
 
 -- ---- ranges of a number are those of what 64 bits hold of it
 
@@ -332,39 +314,40 @@ pub record Judged (p : Plan) (l : plans.Line) (next : ℕ) (r : Line) : Type 0 w
   pub judged : r .fault ≡ faultIn l
   pub makes : firstRefusal (l .asks) ≡ none → Makes (r .kind) (r .first) (r .second) p (l .plan)
 
-module _ {text : List ℕ} {at : ℕ} {p : Plan} {r : Line} where
+module _ {text : List ℕ} {at : ℕ} {p : Plan} {r : Line} {n : ℕ} where
   so-formed : (form : List (List ℕ) → Option plans.Line) (l : plans.Line) (fs : List (List ℕ)) → form fs ≡ some l
-      → {next : ℕ} → Fields text at fs next false → Judged p l next r → Whole text at p form r
-  so-formed form l fs e fields j =
+      → {next : ℕ} → n ≡ next → Fields text at fs next false → Judged p l next r → Whole text at p form r n
+  so-formed form l fs e looked fields j =
       formed (record {
         l = l;
         fs = fs;
         formed = e;
-        fields = rw (j .after) fields;
+        fields = rw looked fields;
+        after = j .after ∙ sym looked;
         ended = j .ended;
         whole = j .whole;
         judged = j .judged;
         makes = j .makes;
       })
 
-  pub one-formed : (make : ℕ → plans.Line) {value : ℕ} {fits : Bool} {next : ℕ} (t : Told text at [] value fits next false)
-      → Judged p (make (t .number)) next r → Whole text at p (oneNumber make) r
-  one-formed make t = so-formed (oneNumber make) (make (t .number)) (t .digits ∷ []) (rw (t .says)) (t .fields)
+  pub one-formed : (make : ℕ → plans.Line) {value : ℕ} {fits : Bool} {next : ℕ} (t : Told text at [] value fits next false n)
+      → Judged p (make (t .number)) next r → Whole text at p (oneNumber make) r n
+  one-formed make t = so-formed (oneNumber make) (make (t .number)) (t .digits ∷ []) (rw (t .says)) (t .looked) (t .fields)
 
   -- the second of two numbers, read after the first
-  pub two-formed : (make : ℕ → ℕ → plans.Line) {value : ℕ} {fits : Bool} {then : ℕ} (t : Told text at [] value fits then true)
-      → Whole text then p (oneNumber (make (t .number))) r → Whole text at p (twoNumbers make) r
+  pub two-formed : (make : ℕ → ℕ → plans.Line) {value : ℕ} {fits : Bool} {then k : ℕ} (t : Told text at [] value fits then true k)
+      → Whole text then p (oneNumber (make (t .number))) r n → Whole text at p (twoNumbers make) r n
   two-formed make t =
       whole-after (t .fields) (oneNumber (make (t .number))) (twoNumbers make) (second-number make (t .digits) (t .number) (t .says))
 
   -- a W line, by its workers: it ends, or goes on
-  pub first-formed : (make : ℕ → Form → plans.Line) {value : ℕ} {fits : Bool} {next : ℕ} (t : Told text at [] value fits next false)
-      → Judged p (make (t .number) forms.First) next r → Whole text at p (inForm make) r
-  first-formed make t = so-formed (inForm make) (make (t .number) forms.First) (t .digits ∷ []) (rw (t .says)) (t .fields)
+  pub first-formed : (make : ℕ → Form → plans.Line) {value : ℕ} {fits : Bool} {next : ℕ} (t : Told text at [] value fits next false n)
+      → Judged p (make (t .number) forms.First) next r → Whole text at p (inForm make) r n
+  first-formed make t = so-formed (inForm make) (make (t .number) forms.First) (t .digits ∷ []) (rw (t .says)) (t .looked) (t .fields)
 
-  pub second-formed : (make : ℕ → Form → plans.Line) {value : ℕ} {fits : Bool} {then : ℕ} (t : Told text at [] value fits then true)
-      → Whole text then p (twoNumbers (λ slots capacity. make (t .number) (forms.Second slots capacity))) r
-      → Whole text at p (inForm make) r
+  pub second-formed : (make : ℕ → Form → plans.Line) {value : ℕ} {fits : Bool} {then k : ℕ} (t : Told text at [] value fits then true k)
+      → Whole text then p (twoNumbers (λ slots capacity. make (t .number) (forms.Second slots capacity))) r n
+      → Whole text at p (inForm make) r n
   second-formed make t = whole-after (t .fields) _ (inForm make) (second-form make (t .digits) (t .number) (t .says))
 
 -- a W line, as 64 bits hold its numbers

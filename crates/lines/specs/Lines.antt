@@ -63,18 +63,6 @@ isWrong (kinds.Workers form) = false
 isWrong kinds.Task = false
 isWrong kinds.Order = false
 
--- ---- looks
-
--- the reading of a line, from a place in it on, has come to n, and each byte on its way was looked at once
-abbrev pub LookedBy : Kind → List ℕ → ℕ → Bool → ℕ → ℕ → Type 0
-LookedBy kinds.Wrong text at more next n = Reaches text at more n
-LookedBy (kinds.Workers form) text at more next n = n ≡ next
-LookedBy kinds.Task text at more next n = n ≡ next
-LookedBy kinds.Order text at more next n = n ≡ next
-
-abbrev pub LineLooked : List ℕ → ℕ → Line → ℕ → Type 0
-LineLooked text at r n = LookedBy (r .kind) text at (r .more) (r .next) n
-
 -- ---- a line that is read whole: W, P, R, S
 
 -- the fields of the line are of no form, or it has no end
@@ -95,20 +83,23 @@ IsWhole (kinds.Workers form) = Unit {0}
 IsWhole kinds.Task = ⊥
 IsWhole kinds.Order = Unit {0}
 
-pub record Formed (text : List ℕ) (at : ℕ) (p : Plan) (form : List (List ℕ) → Option plans.Line) (r : Line) : Type 0 where
+pub record Formed (text : List ℕ) (at : ℕ) (p : Plan) (form : List (List ℕ) → Option plans.Line) (r : Line) (n : ℕ) : Type 0 where
   pub l : plans.Line
   pub fs : List (List ℕ)
   pub formed : form fs ≡ some l
-  pub fields : Fields text at fs (r .next) false
+  pub fields : Fields text at fs n false
+  pub after : r .next ≡ n
   pub ended : r .more ≡ false
   pub whole : IsWhole (r .kind)
   pub judged : r .fault ≡ faultIn l
   pub makes : firstRefusal (l .asks) ≡ none → Makes (r .kind) (r .first) (r .second) p (l .plan)
 
--- the answer for fields that begin at a place, and are the line that `form` says
-pub data Whole (text : List ℕ) (at : ℕ) (p : Plan) (form : List (List ℕ) → Option plans.Line) (r : Line) : Type 0 where
-  malformed : (more : Bool) → r ≡ wrongLine more → Formless form (firstLine (drop at text)) → Whole text at p form r
-  formed : Formed text at p form r → Whole text at p form r
+-- the answer for fields that begin at a place, and are the line that `form` says; each of their bytes that was needed was looked at once, n
+-- bytes of the text so far
+pub data Whole (text : List ℕ) (at : ℕ) (p : Plan) (form : List (List ℕ) → Option plans.Line) (r : Line) (n : ℕ) : Type 0 where
+  malformed : (more : Bool) → r ≡ wrongLine more → Formless form (firstLine (drop at text)) → Reaches text at more n
+      → Whole text at p form r n
+  formed : Formed text at p form r n → Whole text at p form r n
 
 -- the answer for a W line of a form, which ends before `next`
 abbrev pub readWorkers : Plan → ℕ → Form → ℕ → Line
@@ -149,26 +140,27 @@ bareRow at size cost = at ∷ size ∷ cost ∷ 0 ∷ spare layout.mostTaskAcces
 abbrev pub headFault : Plan → ℕ → Fault
 headFault p cost = faultOf (firstRefusal (ask (not (atStart p || hasOrders p)) Misplaced ∷ ask (leb cost 1000) OutOfRange ∷ []))
 
-pub record Begun (text : List ℕ) (at : ℕ) (p : Plan) (row : List ℕ) (r : Line) : Type 0 where
+pub record Begun (text : List ℕ) (at : ℕ) (p : Plan) (row : List ℕ) (r : Line) (n : ℕ) : Type 0 where
   pub label : List ℕ
   pub digits : List ℕ
   pub cost : ℕ
   pub labelled : isLabel label ≡ true
   pub number : numberOf digits ≡ some cost
-  pub fields : Fields text at (label ∷ digits ∷ []) (r .next) (r .more)
+  pub fields : Fields text at (label ∷ digits ∷ []) n (r .more)
+  pub after : r .next ≡ n
   pub stands : Labelled text (bare at label cost)
   pub kept : row ≡ rowOf (bare at label cost)
   pub judged : r .fault ≡ headFault p cost
   pub kind : r .kind ≡ kinds.Task
 
-pub data TaskHead (text : List ℕ) (at : ℕ) (p : Plan) (row : List ℕ) (r : Line) : Type 0 where
-  malformed : (more : Bool) → r ≡ wrongLine more → Formless (labelAndCost (taskLine p)) (firstLine (drop at text)) → TaskHead text at p row r
-  begun : Begun text at p row r → TaskHead text at p row r
+pub data TaskHead (text : List ℕ) (at : ℕ) (p : Plan) (row : List ℕ) (r : Line) (n : ℕ) : Type 0 where
+  malformed : (more : Bool) → r ≡ wrongLine more → Formless (labelAndCost (taskLine p)) (firstLine (drop at text)) → Reaches text at more n
+      → TaskHead text at p row r n
+  begun : Begun text at p row r n → TaskHead text at p row r n
 
 -- ---- any line
 
 -- the answer for the line that begins at a place: after its letter and a tab a task's label begins
-pub data LineAt (text : List ℕ) (at : ℕ) (p : Plan) (row : List ℕ) (r : Line) : Type 0 where
-  whole : Whole text at p (lineOfFields p) r → LineAt text at p row r
-  task : (b : Begun text (at + 2) p row r) → Fields text at (('T' ∷ []) ∷ b .label ∷ b .digits ∷ []) (r .next) (r .more)
-      → LineAt text at p row r
+pub data LineAt (text : List ℕ) (at : ℕ) (p : Plan) (row : List ℕ) (r : Line) (n : ℕ) : Type 0 where
+  whole : Whole text at p (lineOfFields p) r n → LineAt text at p row r n
+  task : (b : Begun text (at + 2) p row r n) → Fields text at (('T' ∷ []) ∷ b .label ∷ b .digits ∷ []) n (r .more) → LineAt text at p row r n

@@ -8,9 +8,8 @@ ghost use Rattle.text.specs.Fields.{clipped};
 ghost use Rattle.plan.specs.Plan.{Order, Plan};
 ghost use Rattle.plan.specs.Line.{oneNumber, twoNumbers, inForm, atStart, sizesInRange, workersLine, roundsLine, picksLine, seededLine};
 ghost use Rattle.kept.specs.Layout as lay;
-ghost use Rattle.lines.specs.declared.line.Kind.the-variants as kinds;
 ghost use Rattle.lines.specs.Lines.{Sums, wrongLine, isWrong, faultIn, firstFault, Whole, readWorkers, secondForm, Ordered, Coded, countLine};
-ghost use Rattle.lines.specs.Lines.{bareRow, TaskHead, LineAt, LineLooked};
+ghost use Rattle.lines.specs.Lines.{bareRow, TaskHead, LineAt};
 use kept::layout;
 use plan::field::Label;
 use plan::field::read_label;
@@ -173,8 +172,7 @@ fn workers_fault(workers: u64, form: Form, misplaced: bool) -> Fault
 
 // A W line that is of this form.
 fn form_line(workers: u64, form: Form, misplaced: bool, next: usize) -> Line
-    ensures answer { λ r. ⌜ ((p : Plan) → misplaced ≡ not (atStart p) → r ≡ readWorkers p workers form next) ⌝ }
-    ensures ended { λ r. ⌜ (r .kind ≡ kinds.Workers form) × (r .next ≡ next) ⌝ }
+    ensures { λ r. ⌜ ((p : Plan) → misplaced ≡ not (atStart p) → r ≡ readWorkers p workers form next) ⌝ }
 {
     Line {
         kind: Kind::Workers(form),
@@ -196,9 +194,8 @@ fn capacity_line(
     looks: &mut u64,
 ) -> Line
     requires { ⌜ (at ≤ length (now text)) × (now looks ≡ at) ⌝ }
-    ensures answer { λ r. ⌜ ((p : Plan) (n m : ℕ) → misplaced ≡ not (atStart p) → workers ≡ clipped n → slots ≡ clipped m
-        → Whole (now (text .entry)) at p (oneNumber (secondForm p n m)) r) ⌝ }
-    ensures counted { λ r. ⌜ LineLooked (now (text .entry)) at r (now (looks .exit)) ⌝ }
+    ensures { λ r. ⌜ ((p : Plan) (n m : ℕ) → misplaced ≡ not (atStart p) → workers ≡ clipped n → slots ≡ clipped m
+        → Whole (now (text .entry)) at p (oneNumber (secondForm p n m)) r (now (looks .exit))) ⌝ }
 {
     match read_number(text, at, looks) {
         Number::Malformed => wrong(true),
@@ -220,9 +217,8 @@ fn capacity_line(
 // The slots, after the workers.
 fn slots_line(text: &[u8], at: usize, workers: u64, misplaced: bool, looks: &mut u64) -> Line
     requires { ⌜ (at ≤ length (now text)) × (now looks ≡ at) ⌝ }
-    ensures answer { λ r. ⌜ ((p : Plan) (n : ℕ) → misplaced ≡ not (atStart p) → workers ≡ clipped n
-        → Whole (now (text .entry)) at p (twoNumbers (secondForm p n)) r) ⌝ }
-    ensures counted { λ r. ⌜ LineLooked (now (text .entry)) at r (now (looks .exit)) ⌝ }
+    ensures { λ r. ⌜ ((p : Plan) (n : ℕ) → misplaced ≡ not (atStart p) → workers ≡ clipped n
+        → Whole (now (text .entry)) at p (twoNumbers (secondForm p n)) r (now (looks .exit))) ⌝ }
 {
     match read_number(text, at, looks) {
         Number::Malformed => wrong(true),
@@ -244,8 +240,7 @@ fn slots_line(text: &[u8], at: usize, workers: u64, misplaced: bool, looks: &mut
 // W: first, and once; a line that goes on after the workers is of the second form.
 fn workers_line(text: &[u8], at: usize, sofar: Sofar, looks: &mut u64) -> Line
     requires { ⌜ (at ≤ length (now text)) × (now looks ≡ at) ⌝ }
-    ensures answer { λ r. ⌜ ((p : Plan) → Sums sofar p → Whole (now (text .entry)) at p (inForm (workersLine p)) r) ⌝ }
-    ensures counted { λ r. ⌜ LineLooked (now (text .entry)) at r (now (looks .exit)) ⌝ }
+    ensures { λ r. ⌜ ((p : Plan) → Sums sofar p → Whole (now (text .entry)) at p (inForm (workersLine p)) r (now (looks .exit))) ⌝ }
 {
     match read_number(text, at, looks) {
         Number::Malformed => wrong(true),
@@ -303,10 +298,9 @@ fn count_line(
     looks: &mut u64,
 ) -> Line
     requires { ⌜ (at ≤ length (now text)) × (most ≤ 1000000) × (out ≡ false → who < lay.who) × (now looks ≡ at) ⌝ }
-    ensures answer { λ r. ⌜ ((p : Plan) (inRange : Bool) (order : ℕ → Order) → misplaced ≡ atStart p → out ≡ not inRange
+    ensures { λ r. ⌜ ((p : Plan) (inRange : Bool) (order : ℕ → Order) → misplaced ≡ atStart p → out ≡ not inRange
         → (inRange ≡ true → Coded order who seed)
-        → Whole (now (text .entry)) at p (oneNumber (countLine p inRange most order)) r) ⌝ }
-    ensures counted { λ r. ⌜ LineLooked (now (text .entry)) at r (now (looks .exit)) ⌝ }
+        → Whole (now (text .entry)) at p (oneNumber (countLine p inRange most order)) r (now (looks .exit))) ⌝ }
 {
     match read_number(text, at, looks) {
         Number::Malformed => wrong(true),
@@ -329,8 +323,7 @@ fn count_line(
 // R: rounds.
 fn rounds_line(text: &[u8], at: usize, sofar: Sofar, looks: &mut u64) -> Line
     requires { ⌜ (at ≤ length (now text)) × (now looks ≡ at) ⌝ }
-    ensures answer { λ r. ⌜ ((p : Plan) → Sums sofar p → Whole (now (text .entry)) at p (oneNumber (roundsLine p)) r) ⌝ }
-    ensures counted { λ r. ⌜ LineLooked (now (text .entry)) at r (now (looks .exit)) ⌝ }
+    ensures { λ r. ⌜ ((p : Plan) → Sums sofar p → Whole (now (text .entry)) at p (oneNumber (roundsLine p)) r (now (looks .exit))) ⌝ }
 {
     let misplaced = sofar.workers == 0;
     count_line(
@@ -348,8 +341,7 @@ fn rounds_line(text: &[u8], at: usize, sofar: Sofar, looks: &mut u64) -> Line
 // P: a worker, so many times.
 fn picks_line(text: &[u8], at: usize, sofar: Sofar, looks: &mut u64) -> Line
     requires { ⌜ (at ≤ length (now text)) × (sofar .workers ≤ 32) × (now looks ≡ at) ⌝ }
-    ensures answer { λ r. ⌜ ((p : Plan) → Sums sofar p → Whole (now (text .entry)) at p (twoNumbers (picksLine p)) r) ⌝ }
-    ensures counted { λ r. ⌜ LineLooked (now (text .entry)) at r (now (looks .exit)) ⌝ }
+    ensures { λ r. ⌜ ((p : Plan) → Sums sofar p → Whole (now (text .entry)) at p (twoNumbers (picksLine p)) r (now (looks .exit))) ⌝ }
 {
     match read_number(text, at, looks) {
         Number::Malformed => wrong(true),
@@ -373,8 +365,7 @@ fn picks_line(text: &[u8], at: usize, sofar: Sofar, looks: &mut u64) -> Line
 // S: a seed, and so many seeded picks.
 fn seeded_line(text: &[u8], at: usize, sofar: Sofar, looks: &mut u64) -> Line
     requires { ⌜ (at ≤ length (now text)) × (now looks ≡ at) ⌝ }
-    ensures answer { λ r. ⌜ ((p : Plan) → Sums sofar p → Whole (now (text .entry)) at p (twoNumbers (seededLine p)) r) ⌝ }
-    ensures counted { λ r. ⌜ LineLooked (now (text .entry)) at r (now (looks .exit)) ⌝ }
+    ensures { λ r. ⌜ ((p : Plan) → Sums sofar p → Whole (now (text .entry)) at p (twoNumbers (seededLine p)) r (now (looks .exit))) ⌝ }
 {
     match read_number(text, at, looks) {
         Number::Malformed => wrong(true),
@@ -421,8 +412,7 @@ fn begin_row(row: &mut [u64], place: usize, size: usize, cost: u64)
 // T: a label and a cost; its accesses follow.
 fn task_line(text: &[u8], at: usize, sofar: Sofar, row: &mut [u64], looks: &mut u64) -> Line
     requires { ⌜ (at ≤ length (now text)) × (length (now row) ≡ lay.taskRow) × (now looks ≡ at) ⌝ }
-    ensures answer { λ r. ⌜ ((p : Plan) → Sums sofar p → TaskHead (now (text .entry)) at p (now (row .exit)) r) ⌝ }
-    ensures counted { λ r. ⌜ LineLooked (now (text .entry)) at r (now (looks .exit)) ⌝ }
+    ensures { λ r. ⌜ ((p : Plan) → Sums sofar p → TaskHead (now (text .entry)) at p (now (row .exit)) r (now (looks .exit))) ⌝ }
 {
     match read_label(text, at, looks) {
         Label::Malformed => wrong(true),
@@ -463,8 +453,7 @@ fn task_line(text: &[u8], at: usize, sofar: Sofar, row: &mut [u64], looks: &mut 
 // The line at a place: a letter and a tab, and the fields of its kind.
 pub fn read_line(text: &[u8], at: usize, sofar: Sofar, row: &mut [u64], looks: &mut u64) -> Line
     requires { ⌜ (at < length (now text)) × (length (now row) ≡ lay.taskRow) × (sofar .workers ≤ 32) × (now looks ≡ at) ⌝ }
-    ensures answer { λ r. ⌜ ((p : Plan) → Sums sofar p → LineAt (now (text .entry)) at p (now (row .exit)) r) ⌝ }
-    ensures counted { λ r. ⌜ LineLooked (now (text .entry)) at r (now (looks .exit)) ⌝ }
+    ensures { λ r. ⌜ ((p : Plan) → Sums sofar p → LineAt (now (text .entry)) at p (now (row .exit)) r (now (looks .exit))) ⌝ }
 {
     let letter = look(text, at, looks);
     if letter == LINE_FEED {

@@ -1,8 +1,8 @@
 -- The readers of a plan's own fields, byte by byte, find what the definition says of the field. Assumes nothing.
 use Prim.Native.Nat.{ℕ, suc, _+_, _≤_, _<_}
-use mathlib.Core.Path.{_≡_, refl, sym, _∙_}
+use mathlib.Core.Path.{_≡_, refl, sym, subst, _∙_, fun-ext}
 use mathlib.Core.Bool.{Bool, true, false, cond, _&&_}
-use mathlib.Core.List.{List, [], _∷_}
+use mathlib.Core.List.{List, _∷_}
 use mathlib.Core.Logic.{_≢_, ⊎-elim}
 use mathlib.Core.Option.{Option, none, some, Option·map}
 use native.Mathlib.Omega.{arith}
@@ -15,16 +15,15 @@ use Rattle.runs.specs.Update.{order, clash}
 use Rattle.runs.specs.Tests.{ways}
 use Rattle.text.specs.Text.{tab, lineFeed, within, numberOf}
 use Rattle.text.specs.declared.read.Number.{Number}
-use Rattle.text.specs.declared.read.Number.the-variants as numbers
-use Rattle.text.specs.LineEnds.{NONE, afterLook, Reaches, reaches-on, reaches-feed, reaches-other, look-within}
-use Rattle.text.specs.Fields.{Cut, endless, cut, fieldOf, answer, numberBy, asNumber, shape, Looked}
-use Rattle.text.specs.FieldLaws.{byte-within, answer-tab, answer-line-feed, answer-on, answer-bad}
+use Rattle.text.specs.LineEnds.{NONE, afterLook}
+use Rattle.text.specs.Fields.{Cut, endless, cut, fieldOf, Unsaid, Answers, said, unsaid, noNumber, ReadNumber}
+use Rattle.text.specs.FieldLaws.{byte-within, answers-end, answers-empty, answers-on, answers-bad}
 use Rattle.plan.specs.declared.field.Label.{Label}
 use Rattle.plan.specs.declared.field.Label.the-variants as labels
 use Rattle.plan.specs.declared.field.Access.the-variants as accesses
 use Rattle.plan.specs.Line.{'r', 'w', isLabelByte, access, accessOf}
-use Rattle.plan.specs.PassFields.{labelBy, asLabel, labelShape, LabelLooked, bit, accessBy, asAccess, accessShape, AccessLooked}
-use Rattle.plan.specs.PassFields.{endLabel, addressed}
+use Rattle.plan.specs.declared.field.Access.{Access}
+use Rattle.plan.specs.PassFields.{noLabel, labelSize, ReadLabel, bit, asAccess, noAccess, ReadAccess, endLabel, addressed}
 
 -- ---- a label's byte, and another
 
@@ -55,37 +54,29 @@ module _ (b : ℕ) where
 
 -- ---- labels
 
-cond-same : {A : Type 0} {a : A} (t : Bool) → cond t a a ≡ a
-cond-same true = refl
-cond-same false = refl
+-- the length of a label of which n bytes stand before
+abbrev pub lateSize : ℕ → List ℕ → Option ℕ
+lateSize n x = cond (within 1 16 (n + length x) && every isLabelByte x) (some (n + length x)) none
 
--- a label of which n bytes stand before
-abbrev lateBy : ℕ → List ℕ → ℕ → Bool → Label
-lateBy n x = labelBy (within 1 16 (n + length x) && every isLabelByte x) (n + length x)
+-- the answer for the field at a place, of which n bytes stand before
+abbrev pub LateLabel : ℕ → List ℕ → ℕ → Label → ℕ → Type 0
+LateLabel n = Answers labels.Is noLabel (lateSize n)
 
-abbrev pub lateLabel : ℕ → ℕ → Cut → Label
-lateLabel n = answer labels.Malformed (lateBy n)
+late-whole : (x : List ℕ) → lateSize 0 x ≡ labelSize x
+late-whole x = rw (zero-add (length x))
 
-pub label-whole : (at : ℕ) (k : Cut) → lateLabel 0 at k ≡ asLabel at k
-unfolding answer
-label-whole at endless = refl
-label-whole at (cut x more rest) = rw (zero-add (length x))
+pub label-whole : (text : List ℕ) (at : ℕ) {r : Label} {k : ℕ} → LateLabel 0 text at r k → ReadLabel text at r k
+label-whole text at {r} {k} so = subst (λ (says : List ℕ → Option ℕ). Answers labels.Is noLabel says text at r k) (fun-ext late-whole) so
 
-late-end : (n next : ℕ) (more : Bool) → labelBy (within 1 16 n) n next more ≡ lateBy n [] next more
+late-more : (n b : ℕ) → isLabelByte b ≡ true → (x : List ℕ) → lateSize (n + 1) x ≡ lateSize n (b ∷ x)
 unfolding every
-late-end n next more = rw (add-zero n) (ways (within 1 16 n) (λ e. simp e) (λ e. simp e))
-
-late-more : (n b : ℕ) → isLabelByte b ≡ true → (x : List ℕ) (next : ℕ) (more : Bool)
-    → lateBy (n + 1) x next more ≡ lateBy n (b ∷ x) next more
-unfolding every
-late-more n b is x next more =
+late-more n b is x =
     let q : n + 1 + length x ≡ n + suc (length x) = omega arith in
     simp (q, is)
 
-late-never : (n b : ℕ) → isLabelByte b ≡ false → (x : List ℕ) (next : ℕ) (more : Bool)
-    → lateBy n (b ∷ x) next more ≡ labels.Malformed
+late-never : (n b : ℕ) → isLabelByte b ≡ false → (x : List ℕ) → lateSize n (b ∷ x) ≡ none
 unfolding every
-late-never n b other x next more = ways (within 1 16 (n + suc (length x))) (λ e. simp (e, other)) (λ e. simp (e, other))
+late-never n b other x = ways (within 1 16 (n + suc (length x))) (λ e. simp (e, other)) (λ e. simp (e, other))
 
 -- a label's byte stands in the text
 pub label-within : (text : List ℕ) (at : ℕ) → isLabelByte (getD text at NONE) ≡ true → at < length text
@@ -93,96 +84,90 @@ label-within text at is =
     ⊎-elim (λ (w : at < length text). w) (λ (w : length text ≤ at). (let no : true ≡ false = sym (rw (List·getD-eq-default text NONE w) at is) in clash (cc)))
     (order at (length text))
 
-pub label-no-feed : (b : ℕ) → isLabelByte b ≡ true → b ≢ lineFeed
+label-no-tab : (b : ℕ) → isLabelByte b ≡ true → b ≢ tab
+label-no-tab b is e = let no : true ≡ false = sym (rw e at is) in clash (cc)
+
+label-no-feed : (b : ℕ) → isLabelByte b ≡ true → b ≢ lineFeed
 label-no-feed b is e = let no : true ≡ false = sym (rw e at is) in clash (cc)
 
--- the end of a label's field, whatever follows a malformed one
-end-shape : (len end next : ℕ) → labelShape (endLabel len end next)
-    ≡ cond (within 1 16 len)
-    (cond (eqb end tab) (labels.Is len next true) (cond (eqb end lineFeed) (labels.Is len next false) labels.Malformed)) labels.Malformed
-end-shape len end next =
-    ways (within 1 16 len)
-    (λ w. ways (eqb end tab) (λ e. simp (w, e)) (λ e. ways (eqb end lineFeed) (λ q. simp (w, e, q)) (λ q. simp (w, e, q))))
-    (λ w. ways (eqb end lineFeed) (λ q. simp (w, q)) (λ q. simp (w, q)))
+module _ (n : ℕ) (text : List ℕ) (at : ℕ) (in-text : at ≤ length text) where
+  -- the label ends here
+  late-end : (more : Bool) → getD text at NONE ≡ cond more tab lineFeed → {r : Label}
+      → r ≡ cond (within 1 16 n) (labels.Is n (at + 1) more) (noLabel more) → LateLabel n text at r (afterLook text at)
+  unfolding every
+  late-end more e is =
+      ways (within 1 16 n)
+      (λ w. answers-end labels.Is noLabel (lateSize n) text at in-text more e n (rw (add-zero n) (simp w)) (is ∙ simp w))
+      (λ w. answers-empty labels.Is noLabel (lateSize n) text at in-text more e (rw (add-zero n) (simp w)) (is ∙ simp w))
 
--- the bytes before it were looked at once, and so is the one at its end
-pub label-looked : {text : List ℕ} {from at : ℕ} → Reaches text from true at → (len : ℕ)
-    → LabelLooked text from (endLabel len (getD text at NONE) (at + 1)) (afterLook text at)
-label-looked {text} {from} {at} so len =
-    let b = getD text at NONE in
-    let inside : b < NONE → afterLook text at ≡ at + 1 = λ h. look-within text at (byte-within text at h) in
-    let goes-on : eqb b lineFeed ≡ false → Reaches text from true (afterLook text at) =
-    λ q. reaches-on so (reaches-other text at (so .within) (eqb-false b lineFeed q)) in
-    ways (within 1 16 len)
-    (λ w. ways (eqb b tab) (λ e. simp (w, e) (inside (omega (arith, eqb-true b tab e)))) (λ e.
-    ways (eqb b lineFeed) (λ q. simp (w, e, q) (inside (omega (arith, eqb-true b lineFeed q)))) (λ q. simp (w, e, q) (goes-on q))))
-    (λ w. ways (eqb b lineFeed)
-    (λ q. simp (w, q) (reaches-on so (reaches-feed text at (so .within) (eqb-true b lineFeed q)))) (λ q. simp (w, q) (goes-on q)))
-
-module _ (n : ℕ) (text : List ℕ) (at : ℕ) where
-  pub label-end : isLabelByte (getD text at NONE) ≡ false
-      → labelShape (endLabel n (getD text at NONE) (at + 1)) ≡ lateLabel n at (fieldOf (drop at text))
-  label-end other =
+  pub label-end : isLabelByte (getD text at NONE) ≡ false → {r : Label} → r ≡ endLabel n (getD text at NONE) (at + 1)
+      → LateLabel n text at r (afterLook text at)
+  label-end other is =
       let b = getD text at NONE in
-      end-shape n b (at + 1) ∙ ways (eqb b tab)
-      (λ e. simp e (late-end n (at + 1) true ∙ answer-tab labels.Malformed (lateBy n) text at (eqb-true b tab e))) (λ e.
+      ways (eqb b tab)
+      (λ e. late-end true (eqb-true b tab e) (is ∙ rw (eqb-true b tab e) refl)) (λ e.
       ways (eqb b lineFeed)
-      (λ q. simp (e, q) (late-end n (at + 1) false ∙ answer-line-feed labels.Malformed (lateBy n) text at (eqb-true b lineFeed q)))
-      (λ q. simp (e, q) (cond-same (within 1 16 n)
-      ∙ answer-bad labels.Malformed (lateBy n) text at (eqb-false b tab e) (eqb-false b lineFeed q) (late-never n b other))))
+      (λ q. late-end false (eqb-true b lineFeed q) (is ∙ rw (eqb-true b lineFeed q) refl))
+      (λ q. answers-bad labels.Is noLabel (lateSize n) text at in-text (eqb-false b tab e) (eqb-false b lineFeed q) (late-never n b other)
+      (is ∙ ways (within 1 16 n) (λ w. simp (w, e, q)) (λ w. simp (w, q)))))
 
-  pub label-on : isLabelByte (getD text at NONE) ≡ true
-      → lateLabel (n + 1) (at + 1) (fieldOf (drop (at + 1) text)) ≡ lateLabel n at (fieldOf (drop at text))
+  pub label-on : isLabelByte (getD text at NONE) ≡ true → {r : Label} {k : ℕ} → LateLabel (n + 1) text (at + 1) r k → LateLabel n text at r k
   label-on is =
-      answer-on labels.Malformed (lateBy n) text at (λ e. let no : true ≡ false = sym (rw e at is) in clash (cc)) (λ e. let no : true ≡ false = sym (rw e at is) in clash (cc))
-      (label-within text at is) (lateBy (n + 1)) (late-more n (getD text at NONE) is)
+      answers-on labels.Is noLabel (lateSize n) text at in-text (label-no-tab (getD text at NONE) is) (label-no-feed (getD text at NONE) is)
+      (label-within text at is) (lateSize (n + 1)) (late-more n (getD text at NONE) is)
 
 -- ---- accesses
 
-pub addressed-shape : (writes : ℕ) (n : Number) → accessShape (addressed writes n) ≡ addressed writes (shape n)
-addressed-shape writes numbers.Malformed = refl
-addressed-shape writes numbers.MalformedAtEnd = refl
-addressed-shape writes (numbers.Is value fits next more) = refl
-
--- the byte before the address was looked at once, and so was the address
-pub addressed-looked : {text : List ℕ} {from at : ℕ} → Reaches text from true at → (writes : ℕ) (n : Number) (k : ℕ) → Looked text at n k
-    → AccessLooked text from (addressed writes n) k
-addressed-looked so writes numbers.Malformed k h = reaches-on so h
-addressed-looked so writes numbers.MalformedAtEnd k h = reaches-on so h
-addressed-looked so writes (numbers.Is value fits next more) k h = h
-
-access-by : (writes : Bool) (o : Option ℕ) (next : ℕ) (more : Bool)
-    → addressed (bit writes) (numberBy o next more) ≡ accessBy (Option·map (access writes) o) next more
-access-by writes none next more = refl
-access-by writes (some v) next more = refl
-
-addressed-answer : (writes at : ℕ) (k : Cut)
-    → addressed writes (asNumber at k) ≡ answer accesses.Malformed (λ x n m. addressed writes (numberBy (numberOf x) n m)) at k
-unfolding answer
-addressed-answer writes at endless = refl
-addressed-answer writes at (cut x more rest) = refl
-
 module _ (text : List ℕ) (at : ℕ) where
-  -- the byte stands before an address
-  access-on : (writes : Bool) → getD text at NONE ≢ tab → getD text at NONE ≢ lineFeed → at < length text
-      → ((x : List ℕ) → accessOf (getD text at NONE ∷ x) ≡ Option·map (access writes) (numberOf x))
-      → addressed (bit writes) (asNumber (at + 1) (fieldOf (drop (at + 1) text))) ≡ asAccess at (fieldOf (drop at text))
-  access-on writes t l here says =
-      addressed-answer (bit writes) (at + 1) (fieldOf (drop (at + 1) text))
-      ∙ answer-on accesses.Malformed (λ x. accessBy (accessOf x)) text at t l here
-      (λ x n m. addressed (bit writes) (numberBy (numberOf x) n m)) (λ x n m. rw (says x) (access-by writes (numberOf x) n m))
+  -- the number at a place, as the address of an access
+  address-of : (writes : Bool) {m : Number} {n : ℕ} → ReadNumber text at m n → {r : Access} → r ≡ addressed (bit writes) m
+      → Answers asAccess noAccess (λ x. Option·map (access writes) (numberOf x)) text at r n
+  address-of writes (said x v more rest e s q i) is = said x (access writes v) more rest e (rw s refl) q (is ∙ rw i refl)
+  address-of writes (unsaid more u reach i) is = unsaid more (no-address (fieldOf (drop at text)) u) reach (is ∙ rw i (by more))
+    where
+      no-address : (k : Cut) → Unsaid numberOf k → Unsaid (λ x. Option·map (access writes) (numberOf x)) k
+      no-address endless u = tt
+      no-address (cut x m after) u = rw u refl
 
-  pub access-letter : (writes : Bool) → getD text at NONE ≡ cond writes 'w' 'r'
-      → addressed (bit writes) (asNumber (at + 1) (fieldOf (drop (at + 1) text))) ≡ asAccess at (fieldOf (drop at text))
-  unfolding accessOf
-  access-letter true e = access-on true (omega arith) (omega arith) (byte-within text at (omega arith)) (λ x. rw e)
-  access-letter false e = access-on false (omega arith) (omega arith) (byte-within text at (omega arith)) (λ x. rw e)
+      by : (more : Bool) → addressed (bit writes) (noNumber more) ≡ noAccess more
+      by true = refl
+      by false = refl
 
-  pub access-other : getD text at NONE ≢ 'r' → getD text at NONE ≢ 'w' → accesses.Malformed ≡ asAccess at (fieldOf (drop at text))
+module _ (text : List ℕ) (at : ℕ) (in-text : at ≤ length text) where
+  -- the letter stands before an address
+  pub access-letter : (writes : Bool) → getD text at NONE ≡ cond writes 'w' 'r' → {m : Number} {n : ℕ} → ReadNumber text (at + 1) m n
+      → {r : Access} → r ≡ addressed (bit writes) m → ReadAccess text at r n
   unfolding accessOf
-  access-other r w =
+  access-letter writes e so is =
+      answers-on asAccess noAccess accessOf text at in-text (no-tab writes e) (no-feed writes e) (byte-within text at (in-byte writes e))
+      (λ x. Option·map (access writes) (numberOf x)) (λ x. says writes e x) (address-of text (at + 1) writes so is)
+    where
+      no-tab : (w : Bool) → getD text at NONE ≡ cond w 'w' 'r' → getD text at NONE ≢ tab
+      no-tab true e = omega arith
+      no-tab false e = omega arith
+
+      no-feed : (w : Bool) → getD text at NONE ≡ cond w 'w' 'r' → getD text at NONE ≢ lineFeed
+      no-feed true e = omega arith
+      no-feed false e = omega arith
+
+      in-byte : (w : Bool) → getD text at NONE ≡ cond w 'w' 'r' → getD text at NONE < NONE
+      in-byte true e = omega arith
+      in-byte false e = omega arith
+
+      says : (w : Bool) → getD text at NONE ≡ cond w 'w' 'r' → (x : List ℕ)
+          → Option·map (access w) (numberOf x) ≡ accessOf (getD text at NONE ∷ x)
+      says true e x = rw e refl
+      says false e x = rw e refl
+
+  pub access-ended : getD text at NONE ≡ lineFeed → ReadAccess text at accesses.MalformedAtEnd (afterLook text at)
+  unfolding accessOf
+  access-ended e = answers-empty asAccess noAccess accessOf text at in-text false e refl refl
+
+  pub access-other : getD text at NONE ≢ 'r' → getD text at NONE ≢ 'w' → getD text at NONE ≢ lineFeed
+      → ReadAccess text at accesses.Malformed (afterLook text at)
+  unfolding accessOf
+  access-other r w l =
       let b = getD text at NONE in
-      ways (eqb b tab) (λ e. answer-tab accesses.Malformed (λ x. accessBy (accessOf x)) text at (eqb-true b tab e)) (λ e.
-      ways (eqb b lineFeed) (λ q. answer-line-feed accesses.Malformed (λ x. accessBy (accessOf x)) text at (eqb-true b lineFeed q))
-      (λ q. answer-bad accesses.Malformed (λ x. accessBy (accessOf x)) text at (eqb-false b tab e) (eqb-false b lineFeed q)
-      (λ x n m. simp (ne-eqb b 'r' r, ne-eqb b 'w' w))))
+      ways (eqb b tab)
+      (λ e. answers-empty asAccess noAccess accessOf text at in-text true (eqb-true b tab e) refl refl)
+      (λ e. answers-bad asAccess noAccess accessOf text at in-text (eqb-false b tab e) l (λ x. simp (ne-eqb b 'r' r, ne-eqb b 'w' w)) refl)

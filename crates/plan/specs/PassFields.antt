@@ -1,6 +1,5 @@
 -- What the readers of a plan's own fields answer.
 use Prim.Native.Nat.{ℕ}
-use mathlib.Core.Path.{_≡_}
 use mathlib.Core.Bool.{Bool, true, false, cond}
 use mathlib.Core.List.{List}
 use mathlib.Core.Option.{Option, none, some}
@@ -13,54 +12,37 @@ use Rattle.plan.specs.declared.field.Access.the-variants as accesses
 use Rattle.text.specs.declared.read.Number.{Number}
 use Rattle.text.specs.declared.read.Number.the-variants as numbers
 use Rattle.text.specs.Text.{tab, lineFeed, within}
-use Rattle.text.specs.LineEnds.{Reaches}
-use Rattle.text.specs.Fields.{Cut, answer, clipped}
+use Rattle.text.specs.Fields.{Answers, clipped}
 use Rattle.plan.specs.Plan as plans
 use Rattle.plan.specs.Line.{isLabel, accessOf}
 
--- the label at a place: its length
-abbrev pub labelBy : Bool → ℕ → ℕ → Bool → Label
-labelBy formed len next more = cond formed (labels.Is len next more) labels.Malformed
+-- the length of a label
+abbrev pub labelSize : List ℕ → Option ℕ
+labelSize x = cond (isLabel x) (some (length x)) none
 
-abbrev pub asLabel : ℕ → Cut → Label
-asLabel = answer labels.Malformed (λ x. labelBy (isLabel x) (length x))
+-- the answers for a label, and for none
+abbrev pub noLabel : Bool → Label
+noLabel true = labels.Malformed
+noLabel false = labels.MalformedAtEnd
 
--- an answer, whatever follows a malformed label
-abbrev pub labelShape : Label → Label
-labelShape labels.Malformed = labels.Malformed
-labelShape labels.MalformedAtEnd = labels.Malformed
-labelShape (labels.Is len next more) = labels.Is len next more
-
--- each byte of the label at a place was looked at once, as `Looked` says of a number
-abbrev pub LabelLooked : List ℕ → ℕ → Label → ℕ → Type 0
-LabelLooked text at labels.Malformed n = Reaches text at true n
-LabelLooked text at labels.MalformedAtEnd n = Reaches text at false n
-LabelLooked text at (labels.Is len next more) n = n ≡ next
+abbrev pub ReadLabel : List ℕ → ℕ → Label → ℕ → Type 0
+ReadLabel = Answers labels.Is noLabel labelSize
 
 -- 1 for true
 abbrev pub bit : Bool → ℕ
 bit true = 1
 bit false = 0
 
--- the access at a place
-abbrev pub accessBy : Option plans.Access → ℕ → Bool → Access
-accessBy none next more = accesses.Malformed
-accessBy (some a) next more = accesses.Is (bit (a .writes)) (clipped (a .address)) next more
+-- the answers for an access, and for none
+abbrev pub asAccess : plans.Access → ℕ → Bool → Access
+asAccess a next more = accesses.Is (bit (a .writes)) (clipped (a .address)) next more
 
-abbrev pub asAccess : ℕ → Cut → Access
-asAccess = answer accesses.Malformed (λ x. accessBy (accessOf x))
+abbrev pub noAccess : Bool → Access
+noAccess true = accesses.Malformed
+noAccess false = accesses.MalformedAtEnd
 
--- an answer, whatever follows a malformed access
-abbrev pub accessShape : Access → Access
-accessShape accesses.Malformed = accesses.Malformed
-accessShape accesses.MalformedAtEnd = accesses.Malformed
-accessShape (accesses.Is writes address next more) = accesses.Is writes address next more
-
--- each byte of the access at a place was looked at once, as `Looked` says of a number
-abbrev pub AccessLooked : List ℕ → ℕ → Access → ℕ → Type 0
-AccessLooked text at accesses.Malformed n = Reaches text at true n
-AccessLooked text at accesses.MalformedAtEnd n = Reaches text at false n
-AccessLooked text at (accesses.Is writes address next more) n = n ≡ next
+abbrev pub ReadAccess : List ℕ → ℕ → Access → ℕ → Type 0
+ReadAccess = Answers asAccess noAccess accessOf
 
 -- ---- parts of the readers
 

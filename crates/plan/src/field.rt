@@ -1,11 +1,9 @@
 // Readers of a plan's own fields, as those of `text`.
 ghost use mathlib.Core.Path.{_≡_};
 ghost use Prim.Native.Nat.{_≤_};
-ghost use lib.ListN.{length, drop};
-ghost use Rattle.text.specs.Fields.{fieldOf};
+ghost use lib.ListN.{length};
 ghost use Rattle.plan.specs.Line.{isLabelByte};
-ghost use Rattle.plan.specs.PassFields.{asLabel, labelShape, LabelLooked, asAccess, accessShape, AccessLooked};
-ghost use Rattle.plan.specs.PassFields.{malformedLabel, endLabel, addressed};
+ghost use Rattle.plan.specs.PassFields.{ReadLabel, ReadAccess, malformedLabel, endLabel, addressed};
 use text::read::LINE_FEED;
 use text::read::Number;
 use text::read::TAB;
@@ -90,8 +88,7 @@ fn end_label(len: usize, end: u64, next: usize) -> Label
 // A label: 1 to 16 letters, digits or hyphens.
 pub fn read_label(text: &[u8], from: usize, looks: &mut u64) -> Label
     requires { ⌜ (from ≤ length (now text)) × (now looks ≡ from) ⌝ }
-    ensures answer { λ r. ⌜ labelShape r ≡ asLabel from (fieldOf (drop from (now (text .entry)))) ⌝ }
-    ensures counted { λ r. ⌜ LabelLooked (now (text .entry)) from r (now (looks .exit)) ⌝ }
+    ensures { λ r. ⌜ ReadLabel (now (text .entry)) from r (now (looks .exit)) ⌝ }
 {
     let mut at = from;
     loop {
@@ -127,8 +124,7 @@ fn with_address(writes: u64, address: Number) -> Access
 // An access: r or w, then an address.
 pub fn read_access(text: &[u8], at: usize, looks: &mut u64) -> Access
     requires { ⌜ (at ≤ length (now text)) × (now looks ≡ at) ⌝ }
-    ensures answer { λ r. ⌜ accessShape r ≡ asAccess at (fieldOf (drop at (now (text .entry)))) ⌝ }
-    ensures counted { λ r. ⌜ AccessLooked (now (text .entry)) at r (now (looks .exit)) ⌝ }
+    ensures { λ r. ⌜ ReadAccess (now (text .entry)) at r (now (looks .exit)) ⌝ }
 {
     let b = look(text, at, looks);
     if b == READS {

@@ -13,9 +13,10 @@ use Rattle.refusals.specs.declared.Refusal.the-variants.{Malformed, Misplaced, 
 use Rattle.runs.specs.Update.{clash}
 use Rattle.runs.specs.Stores.{drop-from}
 use Rattle.text.specs.Text.{lineFeed, split, allOf, numberOf}
-use Rattle.text.specs.LineEnds.{linesSize, lineEnd, Reaches, end-past, lines-more}
-use Rattle.text.specs.Fields.{Cut, endless, cut, fieldOf, answer, First, unended, first, firstLine, Fields, clipped}
+use Rattle.text.specs.LineEnds.{linesSize, lineEnd, Reaches, reaches-on, end-past, lines-more}
+use Rattle.text.specs.Fields.{cut, fieldOf, said, unsaid, First, unended, first, firstLine, Fields, clipped}
 use Rattle.text.specs.FieldLaws.{some-part, field-length, fields-more, fields-reach, line-parts, line-unended}
+use Rattle.plan.specs.declared.field.Access as fields
 use Rattle.plan.specs.declared.field.Access.the-variants as accesses
 use Rattle.plan.specs.declared.form.Form.{Form}
 use Rattle.plan.specs.Plan.{Access, Order, Plan, emptyPlan, withWorkers, withTask, withOrder}
@@ -23,7 +24,7 @@ use Rattle.plan.specs.Line as plans
 use Rattle.plan.specs.Line.{'T', access, accessOf, atStart, isLabel, withCost, lineBy, lineOfFields, taskLine}
 use Rattle.plan.specs.Reading.{Reading, accepted, refused, firstRefusal, readLine, readLines, reading}
 use Rattle.plan.specs.Lengths.{reading-long, reading-short}
-use Rattle.plan.specs.PassFields.{bit, accessBy, asAccess}
+use Rattle.plan.specs.PassFields.{bit, noAccess, ReadAccess}
 use Rattle.kept.specs.Layout as layout
 use Rattle.kept.specs.Tasks.{Placed, rowOf, rowsOf, Labelled, KeepsTasks}
 use Rattle.kept.specs.TaskLaws.{no-tasks, task-kept}
@@ -36,7 +37,7 @@ use Rattle.lines.specs.declared.line.Kind.the-variants as kinds
 use Rattle.lines.specs.declared.line.Line.{Line}
 use Rattle.lines.specs.declared.line.Sofar.{Sofar}
 use Rattle.lines.specs.Accesses.{withAccesses, Reads}
-use Rattle.lines.specs.Lines.{Sums, faultOf, faultIn, isWrong, LookedBy, LineLooked, Formless, Makes, IsWhole, Formed, malformed, formed}
+use Rattle.lines.specs.Lines.{Sums, faultOf, faultIn, isWrong, Formless, Makes, IsWhole, Formed, malformed, formed}
 use Rattle.lines.specs.Lines.{bare, headFault, LineAt, whole, task}
 use Rattle.lines.specs.Judging.{faultBy, judged}
 use Rattle.reader.specs.Keeping.{Keeps}
@@ -118,7 +119,7 @@ pub record TaskRead (text : List ℕ) (begin : ℕ) (p : Plan) (line : Line) (at
 
 -- the line in hand is read up to a place: whole, or a task's
 pub data InLine (text : List ℕ) (begin : ℕ) (p : Plan) (line : Line) (at : ℕ) (more : Bool) (a : Accesses) (row : List ℕ) : Type 0 where
-  other : Formed text begin p (lineOfFields p) line → at ≡ line .next → more ≡ false → InLine text begin p line at more a row
+  other : Formed text begin p (lineOfFields p) line at → more ≡ false → InLine text begin p line at more a row
   tasks : TaskRead text begin p line at more a row → InLine text begin p line at more a row
 
 -- a line that is not of its form
@@ -128,39 +129,27 @@ whole-right (kinds.Workers form) w = refl
 whole-right kinds.Task w = absurd w
 whole-right kinds.Order w = refl
 
-line-wrong : {text : List ℕ} {begin : ℕ} {p : Plan} {line : Line} {row : List ℕ} → LineAt text begin p row line → isWrong (line .kind) ≡ true
-    → Formless (lineOfFields p) (firstLine (drop begin text))
-line-wrong (whole (malformed more e f)) is = f
-line-wrong {line = line} (whole (formed f)) is = let no : false ≡ true = sym (whole-right (line .kind) (f .whole)) ∙ is in clash (cc)
-line-wrong (task b fields) is = let no : false ≡ true = rw (b .kind) at is in clash (cc)
+module _ {text : List ℕ} {begin : ℕ} {p : Plan} {line : Line} {row : List ℕ} {n : ℕ} where
+  -- what was looked at of it leads to a place in it
+  pub line-wrong : LineAt text begin p row line n → isWrong (line .kind) ≡ true
+      → Formless (lineOfFields p) (firstLine (drop begin text)) × Reaches text begin (line .more) n
+  line-wrong (whole (malformed more e f reach)) is = (f, rw e reach)
+  line-wrong (whole (formed f)) is = let no : false ≡ true = sym (whole-right (line .kind) (f .whole)) ∙ is in clash (cc)
+  line-wrong (task b fields) is = let no : false ≡ true = rw (b .kind) at is in clash (cc)
 
--- the looks at it lead to a place in it, and those at any other to the place after what is read of it
-module _ (text : List ℕ) (at : ℕ) (line : Line) (n : ℕ) (h : LineLooked text at line n) where
-  pub wrong-place : isWrong (line .kind) ≡ true → Reaches text at (line .more) n
-  wrong-place is = by (line .kind) is h
-    where
-      by : (k : Kind) → isWrong k ≡ true → LookedBy k text at (line .more) (line .next) n → Reaches text at (line .more) n
-      by kinds.Wrong e h = h
-      by (kinds.Workers form) e h = clash (cc)
-      by kinds.Task e h = clash (cc)
-      by kinds.Order e h = clash (cc)
-
-  pub line-place : isWrong (line .kind) ≡ false → n ≡ line .next
-  line-place is = by (line .kind) is h
-    where
-      by : (k : Kind) → isWrong k ≡ false → LookedBy k text at (line .more) (line .next) n → n ≡ line .next
-      by kinds.Wrong e h = clash (cc)
-      by (kinds.Workers form) e h = h
-      by kinds.Task e h = h
-      by kinds.Order e h = h
+  -- and of any other to the place after what is read of it
+  pub line-place : LineAt text begin p row line n → isWrong (line .kind) ≡ false → line .next ≡ n
+  line-place (whole (malformed more e f reach)) right = let no : true ≡ false = rw e at right in clash (cc)
+  line-place (whole (formed f)) right = f .after
+  line-place (task b fields) right = b .after
 
 -- none of its accesses is read yet
-line-begins : {text : List ℕ} {begin : ℕ} {p : Plan} {line : Line} {a : Accesses} {row : List ℕ} → LineAt text begin p row line
+line-begins : {text : List ℕ} {begin : ℕ} {p : Plan} {line : Line} {a : Accesses} {row : List ℕ} {n : ℕ} → LineAt text begin p row line n
     → isWrong (line .kind) ≡ false → ((t : Placed) → Reads t [] a (rowOf (withAccesses t [])))
-    → InLine text begin p line (line .next) (line .more) a row
+    → InLine text begin p line n (line .more) a row
 unfolding allOf
-line-begins (whole (malformed more e f)) right start = let no : true ≡ false = rw e at right in clash (cc)
-line-begins (whole (formed f)) right start = other f refl (f .ended)
+line-begins (whole (malformed more e f reach)) right start = let no : true ≡ false = rw e at right in clash (cc)
+line-begins (whole (formed f)) right start = other f (f .ended)
 line-begins {begin = begin} (task b fields) right start =
     tasks
     (record {
@@ -187,7 +176,7 @@ found l e = rw e at l
 -- it is in the text
 pub line-inside : {text : List ℕ} {begin : ℕ} {p : Plan} {line : Line} {at : ℕ} {more : Bool} {a : Accesses} {row : List ℕ}
     → InLine text begin p line at more a row → at ≤ length text
-line-inside (other f i m) = rw i (f .fields .within)
+line-inside (other f m) = f .fields .within
 line-inside (tasks t) = t .fields .within
 
 -- ---- one access more
@@ -211,24 +200,17 @@ all-none [] ps = refl
 all-none (none ∷ os) ps = refl
 all-none (some x ∷ os) ps = rw (all-none os ps)
 
-module _ (text : List ℕ) (at : ℕ) where
-  -- the place after an access
-  pub access-next : at ≤ length text → {writes address next : ℕ} {more : Bool}
-      → accesses.Is writes address next more ≡ asAccess at (fieldOf (drop at text)) → (at < next) × (next ≤ length text)
-  unfolding answer
-  access-next h {writes} {address} {next} {more} e = go (fieldOf (drop at text)) refl e
-    where
-      by : (x : List ℕ) (o : Option Access) (m : Bool) → accesses.Is writes address next more ≡ accessBy o (at + (length x + 1)) m
-          → next ≡ at + (length x + 1)
-      by x none m e = clash (cc)
-      by x (some a) m e = cc
+no-access : {A : Type 0} {writes address next : ℕ} {m : Bool} (more : Bool) → accesses.Is writes address next m ≡ noAccess more → A
+no-access true e = clash (cc)
+no-access false e = clash (cc)
 
-      go : (k : Cut) → fieldOf (drop at text) ≡ k → accesses.Is writes address next more ≡ asAccess at k
-          → (at < next) × (next ≤ length text)
-      go endless q e = clash (cc)
-      go (cut x m rest) q e =
-          let n = by x (accessOf x) m e in
-          (omega arith, omega (arith, field-length (drop at text) x m rest q, length-drop at text))
+-- the place after an access
+pub access-next : {text : List ℕ} {at : ℕ} → at ≤ length text → {x : fields.Access} {n : ℕ} → ReadAccess text at x n
+    → {writes address next : ℕ} {more : Bool} → x ≡ accesses.Is writes address next more → (at < next) × (next ≤ length text) × (n ≡ next)
+access-next h (unsaid y u reach i) is = no-access y (sym is ∙ i)
+access-next {text} {at} h {x} {n} (said y b m rest e s q i) {writes} {address} {next} is =
+    let ends : n ≡ next = cc in
+    (omega arith, omega (arith, field-length (drop at text) y m rest e, length-drop at text), ends)
 
 -- a task's line, by its accesses
 task-form : (p : Plan) (label digits : List ℕ) (cost : ℕ) → isLabel label ≡ true → numberOf digits ≡ some cost → (gs : List (List ℕ))
@@ -239,7 +221,7 @@ task-form p label digits cost l n gs = rw (l, n)
 module _ {text : List ℕ} {begin : ℕ} {p : Plan} {line : Line} {at : ℕ} {a : Accesses} {row : List ℕ} where
   -- where more is to come, the line is a task's
   is-task : InLine text begin p line at true a row → TaskRead text begin p line at true a row
-  is-task (other w e more) = clash (cc)
+  is-task (other w more) = clash (cc)
   is-task (tasks t) = t
 
   module _ (so : InLine text begin p line at true a row) where
@@ -251,61 +233,52 @@ module _ {text : List ℕ} {begin : ℕ} {p : Plan} {line : Line} {at : ℕ} {a 
         → Fields text begin (('T' ∷ []) ∷ t .label ∷ t .digits ∷ (t .fs ++ x ∷ [])) (at + (length x + 1)) more
     more-fields = fields-more (t .fields)
 
-    pub access-read : {writes address next : ℕ} {more : Bool} {b : Accesses} {after : List ℕ}
-        → accesses.Is writes address next more ≡ asAccess at (fieldOf (drop at text))
+    pub access-read : {r : fields.Access} {n : ℕ} → ReadAccess text at r n → {writes address next : ℕ} {more : Bool} {b : Accesses} {after : List ℕ}
+        → r ≡ accesses.Is writes address next more
         → ((u : Placed) (ys : List Access) (w : Bool) → writes ≡ bit w → Reads u ys a row → Reads u (ys ++ access w address ∷ []) b after)
         → InLine text begin p line next more b after
-    unfolding answer
-    access-read {writes} {address} {next} {more} {b} {after} e with-access = go (fieldOf (drop at text)) refl e
+    access-read (unsaid m u reach i) is with-access = no-access m (sym is ∙ i)
+    access-read (said x y m rest e s q i) {writes} {address} {next} {more} is with-access =
+        let ends : next ≡ at + (length x + 1) = cc in
+        let same : more ≡ m = cc in
+        let bits : writes ≡ bit (y .writes) = cc in
+        let clip : address ≡ clipped (y .address) = cc in
+        tasks
+        (record {
+          label = t .label;
+          digits = t .digits;
+          cost = t .cost;
+          fs = t .fs ++ x ∷ [];
+          xs = t .xs ++ y ∷ [];
+          labelled = t .labelled;
+          number = t .number;
+          each = rw (map-append accessOf (t .fs) (x ∷ []), s) (all-more (map accessOf (t .fs)) (t .xs) y (t .each));
+          fields = rw (ends, same) (more-fields x m rest e);
+          stands = t .stands;
+          reads =
+              rw (map-append (λ (a : Access). access (a .writes) (clipped (a .address))) (t .xs) (y ∷ []), ← clip)
+              (with-access (bare (begin + 2) (t .label) (t .cost)) (seen (t .xs)) (y .writes) bits (t .reads));
+          judges = t .judges;
+          kind = t .kind;
+        })
+
+    -- a field that is no access, and is left where the line goes on or has ended
+    pub access-wrong : {r : fields.Access} {n : ℕ} → ReadAccess text at r n → (more : Bool) → r ≡ noAccess more
+        → Formless (lineOfFields p) (firstLine (drop begin text)) × Reaches text begin more n
+    access-wrong (said x y m rest e s q i) more is = no-access more (sym i ∙ is)
+    access-wrong (unsaid m u reach i) more is =
+        let left = rw (same m more (sym i ∙ is)) at reach in (
+          formless-next (lineOfFields p) text begin (t .fields)
+              (λ x m rest q gs. task-form p (t .label) (t .digits) (t .cost) (t .labelled) (t .number) (t .fs ++ x ∷ gs)
+              ∙ rw (map-append accessOf (t .fs) (x ∷ gs), rw q at u) (rw (all-none (map accessOf (t .fs)) (map accessOf gs)))),
+          reaches-on (fields-reach true (t .fields)) left,
+        )
       where
-        by : (x : List ℕ) (o : Option Access) (m : Bool) (rest : List ℕ) → fieldOf (drop at text) ≡ cut x m rest → accessOf x ≡ o
-            → accesses.Is writes address next more ≡ accessBy o (at + (length x + 1)) m → InLine text begin p line next more b after
-        by x none m rest q o e = clash (cc)
-        by x (some y) m rest q o e =
-            let n : next ≡ at + (length x + 1) = cc in
-            let same : more ≡ m = cc in
-            let bits : writes ≡ bit (y .writes) = cc in
-            let clip : address ≡ clipped (y .address) = cc in
-            tasks
-            (record {
-              label = t .label;
-              digits = t .digits;
-              cost = t .cost;
-              fs = t .fs ++ x ∷ [];
-              xs = t .xs ++ y ∷ [];
-              labelled = t .labelled;
-              number = t .number;
-              each = rw (map-append accessOf (t .fs) (x ∷ []), o) (all-more (map accessOf (t .fs)) (t .xs) y (t .each));
-              fields = rw (n, same) (more-fields x m rest q);
-              stands = t .stands;
-              reads =
-                  rw (map-append (λ (a : Access). access (a .writes) (clipped (a .address))) (t .xs) (y ∷ []), ← clip)
-                  (with-access (bare (begin + 2) (t .label) (t .cost)) (seen (t .xs)) (y .writes) bits (t .reads));
-              judges = t .judges;
-              kind = t .kind;
-            })
-
-        go : (k : Cut) → fieldOf (drop at text) ≡ k → accesses.Is writes address next more ≡ asAccess at k
-            → InLine text begin p line next more b after
-        go endless q e = clash (cc)
-        go (cut x m rest) q e = by x (accessOf x) m rest q refl e
-
-    -- it is read up to a place in it
-    pub so-far : Reaches text begin true at
-    so-far = fields-reach true (t .fields)
-
-    -- a field that is no access
-    pub access-wrong : accesses.Malformed ≡ asAccess at (fieldOf (drop at text)) → Formless (lineOfFields p) (firstLine (drop begin text))
-    unfolding answer
-    access-wrong e =
-        formless-next (lineOfFields p) text begin (t .fields)
-        (λ x more rest q gs. task-form p (t .label) (t .digits) (t .cost) (t .labelled) (t .number) (t .fs ++ x ∷ gs)
-        ∙ rw (map-append accessOf (t .fs) (x ∷ gs), no-access x (accessOf x) more (rw q at e))
-        (rw (all-none (map accessOf (t .fs)) (map accessOf gs))))
-      where
-        no-access : (x : List ℕ) (o : Option Access) (m : Bool) → accesses.Malformed ≡ accessBy o (at + (length x + 1)) m → o ≡ none
-        no-access x none m e = refl
-        no-access x (some y) m e = clash (cc)
+        same : (m more : Bool) → noAccess m ≡ noAccess more → m ≡ more
+        same true true e = refl
+        same true false e = clash (cc)
+        same false true e = clash (cc)
+        same false false e = refl
 
 -- ---- a line that has ended
 
@@ -328,13 +301,13 @@ record Right (text : List ℕ) (begin : ℕ) (p : Plan) (line : Line) (at : ℕ)
   pub adds : firstRefusal (l .asks) ≡ none → Adds text line row p (l .plan)
 
 module _ {text : List ℕ} {begin : ℕ} {p : Plan} {line : Line} {at : ℕ} {a : Accesses} {row : List ℕ} where
-  formed-ended : Formed text begin p (lineOfFields p) line → at ≡ line .next → Right text begin p line at a row
-  formed-ended f e =
+  formed-ended : Formed text begin p (lineOfFields p) line at → Right text begin p line at a row
+  formed-ended f =
       record {
         l = f .l;
         fs = f .fs;
         form = f .formed;
-        fields = rw e (f .fields);
+        fields = f .fields;
         judges = fault-same (line .kind) (f .whole) ∙ f .judged;
         adds = λ good. adds-as (line .kind) refl (f .makes good);
       }
@@ -368,7 +341,7 @@ module _ {text : List ℕ} {begin : ℕ} {p : Plan} {line : Line} {at : ℕ} {a 
       }
 
   ended : InLine text begin p line at false a row → Right text begin p line at a row
-  ended (other f i m) = formed-ended f i
+  ended (other f m) = formed-ended f
   ended (tasks t) = task-ended t
 
   -- each byte of it stands before the place
@@ -435,17 +408,22 @@ text-begins text l s h =
 
 module _ {text : List ℕ} {before : Lent} {s : Sofar} {n begin : ℕ} {mid : Lent} (g : AtLine text before s n begin mid) where
   -- the line that begins here is in hand, where what is read of it goes on from its first fields
-  pub in-hand : {line : Line} {start : Accesses} {first-row : List ℕ} {at : ℕ} {more : Bool} {a : Accesses} {row : List ℕ}
-      → ((p : Plan) → Sums s p → LineAt text begin p first-row line) → isWrong (line .kind) ≡ false
+  pub in-hand : {line : Line} {start : Accesses} {first-row : List ℕ} {at : ℕ} {more : Bool} {a : Accesses} {row : List ℕ} {k : ℕ}
+      → ((p : Plan) → Sums s p → LineAt text begin p first-row line k) → isWrong (line .kind) ≡ false
       → ((t : Placed) → Reads t [] start (rowOf (withAccesses t [])))
       → ((b : ℕ) (p : Plan) → InLine text b p line (line .next) (line .more) start first-row → InLine text b p line at more a row)
       → InLine text begin (g .p) line at more a row
-  in-hand read right none-yet on = on begin (g .p) (line-begins (read (g .p) (g .sums)) right none-yet)
+  in-hand {line} {start} {first-row} read right none-yet on =
+      let at = read (g .p) (g .sums) in
+      on begin (g .p) (subst (λ (k : ℕ). InLine text begin (g .p) line k (line .more) start first-row) (sym (line-place at right))
+      (line-begins at right none-yet))
 
   -- it is not of its form
-  pub not-formed : {line : Line} {first-row : List ℕ} → ((p : Plan) → Sums s p → LineAt text begin p first-row line)
-      → isWrong (line .kind) ≡ true → begin < length text → comes (g .p) n text begin ≡ refused Malformed n
-  not-formed read is h = comes-formless (g .p) n text begin h (line-wrong (read (g .p) (g .sums)) is)
+  pub not-formed : {line : Line} {first-row : List ℕ} {k : ℕ} → ((p : Plan) → Sums s p → LineAt text begin p first-row line k)
+      → isWrong (line .kind) ≡ true → begin < length text
+      → (comes (g .p) n text begin ≡ refused Malformed n) × Reaches text begin (line .more) k
+  not-formed read is h =
+      let (formless, reach) = line-wrong (read (g .p) (g .sums)) is in (comes-formless (g .p) n text begin h formless, reach)
 
   -- q is kept, with one line more
   record Grown (q : Plan) (r : Sofar) (after : Lent) : Type 0 where

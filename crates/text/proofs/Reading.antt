@@ -1,24 +1,23 @@
 -- The reader of a number, byte by byte, finds what the definition says of the field. Assumes nothing.
 use Prim.Native.Nat.{ℕ, _+_, _-_, _*_, _^_, _≤_, _<_}
-use mathlib.Core.Path.{_≡_, refl}
+use mathlib.Core.Path.{_≡_, refl, _∙_}
 use mathlib.Core.Bool.{true, false}
 use mathlib.Core.List.{List, [], _∷_}
 use mathlib.Core.Logic.{_≢_}
-use mathlib.Core.Option.{Option, none, some}
+use mathlib.Core.Option.{none}
 use native.Mathlib.Omega.{arith}
 use lib.Dec.{eqb}
-use lib.ListN.{drop, getD}
+use lib.ListN.{length, getD}
 use borrow.Author.Tests.{ne-eqb, lt-ltb, le-ltb, le-leb, lt-leb, eqb-true, eqb-false, ltb-false}
 use Rattle.runs.specs.Every.{every}
 use Rattle.text.specs.declared.read.Number.{Number}
-use Rattle.text.specs.declared.read.Number.the-variants.{Malformed, MalformedAtEnd, Is}
+use Rattle.text.specs.declared.read.Number.the-variants.{Malformed, MalformedAtEnd}
 use Rattle.text.specs.declared.read.Digits.{Digits}
 use Rattle.text.specs.Text.{tab, lineFeed, isDigit, valueAfter, numberOf}
 use Rattle.runs.specs.Tests.{ways}
-use Rattle.text.specs.LineEnds.{NONE, afterLook, Reaches, reaches-on, reaches-other, look-within}
-use Rattle.text.specs.Fields.{fieldOf, answer, fitsIn, numberBy, asNumber, shape, Looked}
-use Rattle.text.specs.Fields.{held, Clipped, digitAfter, endNumber, moreOf, moreDigits}
-use Rattle.text.specs.FieldLaws.{byte-within, answer-tab, answer-line-feed, answer-on, answer-bad}
+use Rattle.text.specs.LineEnds.{NONE, afterLook}
+use Rattle.text.specs.Fields.{fitsIn, asNumber, noNumber, ReadNumber, held, Clipped, digitAfter, endNumber, moreOf, MoreDigits}
+use Rattle.text.specs.FieldLaws.{byte-within, answers-end, answers-empty, answers-on, answers-bad}
 
 -- ---- one digit more
 
@@ -54,56 +53,6 @@ low b h = simp (lt-leb 48 b h)
 high : (b : ℕ) → 57 < b → isDigit b ≡ false
 high b h = simp (le-leb 48 b (omega arith), lt-leb b 57 h)
 
--- ---- the end of a number's field
-
-pub end-shape : (digits : Digits) (end next : ℕ) → shape (endNumber digits end next) ≡ endNumber digits end next
-end-shape digits end next =
-    ways (eqb end tab) (λ e. simp e) (λ e. ways (eqb end lineFeed) (λ q. simp (e, q)) (λ q. simp (e, q)))
-
--- the bytes before it were looked at once, and so is the one at its end
-pub end-looked : {text : List ℕ} {from at : ℕ} → Reaches text from true at → (digits : Digits)
-    → Looked text from (endNumber digits (getD text at NONE) (at + 1)) (afterLook text at)
-end-looked {text} {from} {at} so digits =
-    let b = getD text at NONE in
-    ways (eqb b tab)
-    (λ e. simp e (look-within text at (byte-within text at (omega (arith, eqb-true b tab e))))) (λ e.
-    ways (eqb b lineFeed)
-    (λ q. simp (e, q) (look-within text at (byte-within text at (omega (arith, eqb-true b lineFeed q)))))
-    (λ q. simp (e, q) (reaches-on so (reaches-other text at (so .within) (eqb-false b lineFeed q)))))
-
--- what was looked at of a field's rest was looked at of the field
-pub looked-after : {text : List ℕ} {from at : ℕ} → Reaches text from true at → (r : Number) (n : ℕ) → Looked text at r n → Looked text from r n
-looked-after so Malformed n h = reaches-on so h
-looked-after so MalformedAtEnd n h = reaches-on so h
-looked-after so (Is value fits next more) n h = h
-
--- ---- a field by its first byte
-
--- the field at a place, where its bytes say a number by `go`
-abbrev readBy : (List ℕ → Option ℕ) → List ℕ → ℕ → Number
-readBy go text at = answer Malformed (λ x. numberBy (go x)) at (fieldOf (drop at text))
-
-module _ (go : List ℕ → Option ℕ) (text : List ℕ) (at : ℕ) where
-  bad-byte : getD text at NONE ≢ tab → getD text at NONE ≢ lineFeed → ((x : List ℕ) → go (getD text at NONE ∷ x) ≡ none)
-      → Malformed ≡ readBy go text at
-  bad-byte t l bad = answer-bad Malformed (λ x. numberBy (go x)) text at t l (λ x n m. rw (bad x))
-
-  end-byte : (v : ℕ) → go [] ≡ some v → ((x : List ℕ) → go (getD text at NONE ∷ x) ≡ none)
-      → endNumber (held v) (getD text at NONE) (at + 1) ≡ readBy go text at
-  end-byte v is bad =
-      let b = getD text at NONE in
-      ways (eqb b tab)
-      (λ e. simp e (rw is at (answer-tab Malformed (λ x. numberBy (go x)) text at (eqb-true b tab e)))) (λ e.
-      ways (eqb b lineFeed)
-      (λ q. simp (e, q) (rw is at (answer-line-feed Malformed (λ x. numberBy (go x)) text at (eqb-true b lineFeed q))))
-      (λ q. simp (e, q) (bad-byte (eqb-false b tab e) (eqb-false b lineFeed q) bad)))
-
-  digit-byte : 48 ≤ getD text at NONE → getD text at NONE ≤ 57 → (next : List ℕ → Option ℕ)
-      → ((x : List ℕ) → next x ≡ go (getD text at NONE ∷ x)) → readBy next text (at + 1) ≡ readBy go text at
-  digit-byte l h next is =
-      answer-on Malformed (λ x. numberBy (go x)) text at (omega arith) (omega arith) (byte-within text at (omega arith))
-      (λ x. numberBy (next x)) (λ x n m. rw (is x))
-
 -- ---- the digits after the first
 
 more-other : (n b : ℕ) → isDigit b ≡ false → (x : List ℕ) → moreOf n (b ∷ x) ≡ none
@@ -119,22 +68,33 @@ unfolding every valueAfter
 more-on n b z d [] = simp (d, ne-eqb n 0 z)
 more-on n b z d (c ∷ x) = simp (d, ne-eqb n 0 z, ne-eqb (n * 10 + (b - 48)) 0 (omega arith))
 
-module _ (n : ℕ) (text : List ℕ) (at : ℕ) where
-  pub more-end : getD text at NONE < 48 → endNumber (held n) (getD text at NONE) (at + 1) ≡ moreDigits n at (fieldOf (drop at text))
-  more-end h = end-byte (moreOf n) text at n refl (more-other n (getD text at NONE) (low (getD text at NONE) h))
+module _ (v : ℕ) (text : List ℕ) (at : ℕ) (in-text : at ≤ length text) where
+  pub more-end : getD text at NONE < 48 → {r : Number} → r ≡ endNumber (held v) (getD text at NONE) (at + 1)
+      → MoreDigits v text at r (afterLook text at)
+  more-end h {r} is =
+      let b = getD text at NONE in
+      ways (eqb b tab)
+      (λ e. answers-end asNumber noNumber (moreOf v) text at in-text true (eqb-true b tab e) v refl (is ∙ simp e)) (λ e.
+      ways (eqb b lineFeed)
+      (λ q. answers-end asNumber noNumber (moreOf v) text at in-text false (eqb-true b lineFeed q) v refl (is ∙ simp (e, q)))
+      (λ q. answers-bad asNumber noNumber (moreOf v) text at in-text (eqb-false b tab e) (eqb-false b lineFeed q)
+      (more-other v b (low b h)) (is ∙ simp (e, q))))
 
-  pub more-high : 57 < getD text at NONE → Malformed ≡ moreDigits n at (fieldOf (drop at text))
+  pub more-high : 57 < getD text at NONE → MoreDigits v text at Malformed (afterLook text at)
   more-high h =
-      bad-byte (moreOf n) text at (omega arith) (omega arith) (more-other n (getD text at NONE) (high (getD text at NONE) h))
+      answers-bad asNumber noNumber (moreOf v) text at in-text (omega arith) (omega arith)
+      (more-other v (getD text at NONE) (high (getD text at NONE) h)) refl
 
-  pub more-leading : n ≡ 0 → 48 ≤ getD text at NONE → Malformed ≡ moreDigits n at (fieldOf (drop at text))
-  more-leading z l = bad-byte (moreOf n) text at (omega arith) (omega arith) (rw z (more-zero (getD text at NONE)))
+  pub more-leading : v ≡ 0 → 48 ≤ getD text at NONE → MoreDigits v text at Malformed (afterLook text at)
+  more-leading z l =
+      answers-bad asNumber noNumber (moreOf v) text at in-text (omega arith) (omega arith) (rw z (more-zero (getD text at NONE))) refl
 
-  pub more-digit : n ≢ 0 → 48 ≤ getD text at NONE → getD text at NONE ≤ 57
-      → moreDigits (n * 10 + (getD text at NONE - 48)) (at + 1) (fieldOf (drop (at + 1) text)) ≡ moreDigits n at (fieldOf (drop at text))
+  pub more-digit : v ≢ 0 → 48 ≤ getD text at NONE → getD text at NONE ≤ 57 → {r : Number} {n : ℕ}
+      → MoreDigits (v * 10 + (getD text at NONE - 48)) text (at + 1) r n → MoreDigits v text at r n
   more-digit z l h =
       let b = getD text at NONE in
-      digit-byte (moreOf n) text at l h (moreOf (n * 10 + (b - 48))) (more-on n b z (digit b l h))
+      answers-on asNumber noNumber (moreOf v) text at in-text (omega arith) (omega arith) (byte-within text at (omega arith))
+      (moreOf (v * 10 + (b - 48))) (more-on v b z (digit b l h))
 
 -- ---- the first digit
 
@@ -154,23 +114,28 @@ first-digit b l d (c ∷ x) =
     let q : 0 * 10 + (b - 48) ≡ b - 48 = omega arith in
     rw (same-zero b l) (simp (d, q))
 
-module _ (text : List ℕ) (at : ℕ) where
-  number-other : isDigit (getD text at NONE) ≡ false → Malformed ≡ asNumber at (fieldOf (drop at text))
-  unfolding answer numberOf
-  number-other d =
-      let b = getD text at NONE in
-      ways (eqb b tab) (λ e. answer-tab Malformed (λ x. numberBy (numberOf x)) text at (eqb-true b tab e)) (λ e.
-      ways (eqb b lineFeed) (λ q. answer-line-feed Malformed (λ x. numberBy (numberOf x)) text at (eqb-true b lineFeed q))
-      (λ q. bad-byte numberOf text at (eqb-false b tab e) (eqb-false b lineFeed q) (first-other b d)))
+module _ (text : List ℕ) (at : ℕ) (in-text : at ≤ length text) where
+  pub number-ended : getD text at NONE ≡ lineFeed → ReadNumber text at MalformedAtEnd (afterLook text at)
+  unfolding numberOf
+  number-ended e = answers-empty asNumber noNumber numberOf text at in-text false e refl refl
 
-  pub number-low : getD text at NONE < 48 → Malformed ≡ asNumber at (fieldOf (drop at text))
+  pub number-other : isDigit (getD text at NONE) ≡ false → getD text at NONE ≢ lineFeed → ReadNumber text at Malformed (afterLook text at)
+  unfolding numberOf
+  number-other d l =
+      let b = getD text at NONE in
+      ways (eqb b tab)
+      (λ e. answers-empty asNumber noNumber numberOf text at in-text true (eqb-true b tab e) refl refl)
+      (λ e. answers-bad asNumber noNumber numberOf text at in-text (eqb-false b tab e) l (first-other b d) refl)
+
+  pub number-low : getD text at NONE < 48 → getD text at NONE ≢ lineFeed → ReadNumber text at Malformed (afterLook text at)
   number-low h = number-other (low (getD text at NONE) h)
 
-  pub number-high : 57 < getD text at NONE → Malformed ≡ asNumber at (fieldOf (drop at text))
-  number-high h = number-other (high (getD text at NONE) h)
+  pub number-high : 57 < getD text at NONE → ReadNumber text at Malformed (afterLook text at)
+  number-high h = number-other (high (getD text at NONE) h) (omega arith)
 
-  pub number-digit : 48 ≤ getD text at NONE → getD text at NONE ≤ 57
-      → moreDigits (getD text at NONE - 48) (at + 1) (fieldOf (drop (at + 1) text)) ≡ asNumber at (fieldOf (drop at text))
+  pub number-digit : 48 ≤ getD text at NONE → getD text at NONE ≤ 57 → {r : Number} {n : ℕ}
+      → MoreDigits (getD text at NONE - 48) text (at + 1) r n → ReadNumber text at r n
   number-digit l h =
       let b = getD text at NONE in
-      digit-byte numberOf text at l h (moreOf (b - 48)) (first-digit b l (digit b l h))
+      answers-on asNumber noNumber numberOf text at in-text (omega arith) (omega arith) (byte-within text at (omega arith))
+      (moreOf (b - 48)) (first-digit b l (digit b l h))

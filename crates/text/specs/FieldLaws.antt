@@ -4,6 +4,7 @@ use mathlib.Core.Path.{_≡_, refl, sym, ap, _∙_}
 use mathlib.Core.Bool.{Bool, true, false, cond}
 use mathlib.Core.List.{List, [], _∷_, _++_, append-assoc}
 use mathlib.Core.Logic.{_≢_, ⊎-elim}
+use mathlib.Core.Option.{Option, none, some}
 use native.Mathlib.Omega.{arith}
 use native.Mathlib.Nat.{add-zero}
 use lib.Dec.{eqb}
@@ -14,8 +15,8 @@ use Rattle.runs.specs.Update.{order, clash}
 use Rattle.runs.specs.Tests.{ways}
 use Rattle.runs.specs.Stores.{drop-from}
 use Rattle.text.specs.Text.{tab, lineFeed, onFirst, split}
-use Rattle.text.specs.LineEnds.{NONE, linesSize, lineEnd, Reaches}
-use Rattle.text.specs.Fields.{Cut, endless, cut, cutAfter, fieldOf, answer}
+use Rattle.text.specs.LineEnds.{NONE, linesSize, lineEnd, afterLook, Reaches, look-within, reaches-on, reaches-feed, reaches-other}
+use Rattle.text.specs.Fields.{Cut, endless, cut, cutAfter, fieldOf, Unsaid, Answers, said, unsaid}
 use Rattle.text.specs.Fields.{First, unended, first, behind, begun, firstLine, goesOn, Fields}
 
 -- ---- the first field from a place on, by the byte there
@@ -44,50 +45,63 @@ module _ (text : List ℕ) (at : ℕ) where
   unfolding fieldOf
   field-on h t l = rw (drop-from text at NONE h) (simp (ne-eqb (getD text at NONE) tab t, ne-eqb (getD text at NONE) lineFeed l))
 
--- ---- what a reader answers of that field, by the byte there
+-- ---- what a reader answers for that field, by the byte there
 
-answer-cut : {A : Type 0} (bad : A) (go next : List ℕ → ℕ → Bool → A) (at b : ℕ)
-    → ((x : List ℕ) (n : ℕ) (m : Bool) → next x n m ≡ go (b ∷ x) n m) → (k : Cut)
-    → answer bad next (at + 1) k ≡ answer bad go at (cutAfter b k)
-unfolding answer
-answer-cut bad go next at b h endless = refl
-answer-cut bad go next at b h (cut x more rest) =
-    let q : at + 1 + (length x + 1) ≡ at + (suc (length x) + 1) = omega arith in
-    rw q (h x (at + (suc (length x) + 1)) more)
+module _ {A B : Type 0} (good : B → ℕ → Bool → A) (bad : Bool → A) (says : List ℕ → Option B) (text : List ℕ) (at : ℕ)
+    (in-text : at ≤ length text) where
+  abbrev Here : A → Type 0
+  Here r = Answers good bad says text at r (afterLook text at)
 
-answer-same : {A : Type 0} (bad : A) (at : ℕ) (k : Cut) → bad ≡ answer bad (λ x n m. bad) at k
-unfolding answer
-answer-same bad at endless = refl
-answer-same bad at (cut x more rest) = refl
+  -- the field is empty, and the byte ends it
+  module _ (more : Bool) (ends : getD text at NONE ≡ cond more tab lineFeed) where
+    empty-field : (m : Bool) → getD text at NONE ≡ cond m tab lineFeed → fieldOf (drop at text) ≡ cut [] m (drop (at + 1) text)
+    empty-field true e = field-tab text at e
+    empty-field false e = field-line-feed text at e
 
-module _ {A : Type 0} (bad : A) (go : List ℕ → ℕ → Bool → A) (text : List ℕ) (at : ℕ) where
-  pub answer-tab : getD text at NONE ≡ tab → go [] (at + 1) true ≡ answer bad go at (fieldOf (drop at text))
-  unfolding answer
-  answer-tab e = rw (field-tab text at e)
+    end-byte : (m : Bool) → getD text at NONE ≡ cond m tab lineFeed → getD text at NONE < NONE
+    end-byte true e = omega arith
+    end-byte false e = omega arith
 
-  pub answer-line-feed : getD text at NONE ≡ lineFeed → go [] (at + 1) false ≡ answer bad go at (fieldOf (drop at text))
-  unfolding answer
-  answer-line-feed e = rw (field-line-feed text at e)
+    pub answers-end : (b : B) → says [] ≡ some b → {r : A} → r ≡ good b (at + 1) more → Here r
+    answers-end b s is =
+        let n = look-within text at (byte-within text at (end-byte more ends)) in
+        said [] b more (drop (at + 1) text) (empty-field more ends) s n (rw n is)
+
+    pub answers-empty : says [] ≡ none → {r : A} → r ≡ bad more → Here r
+    answers-empty s is = unsaid more (rw (empty-field more ends) s) (reach more ends) is
+      where
+        reach : (m : Bool) → getD text at NONE ≡ cond m tab lineFeed → Reaches text at m (afterLook text at)
+        reach true e = reaches-other text at in-text (omega arith)
+        reach false e = reaches-feed text at in-text e
 
   module _ (t : getD text at NONE ≢ tab) (l : getD text at NONE ≢ lineFeed) where
     -- the byte is one of the field: it is answered by the rest of it
-    pub answer-on : at < length text → (next : List ℕ → ℕ → Bool → A)
-        → ((x : List ℕ) (n : ℕ) (m : Bool) → next x n m ≡ go (getD text at NONE ∷ x) n m)
-        → answer bad next (at + 1) (fieldOf (drop (at + 1) text)) ≡ answer bad go at (fieldOf (drop at text))
-    answer-on here next h =
-        answer-cut bad go next at (getD text at NONE) h (fieldOf (drop (at + 1) text))
-        ∙ ap (answer bad go at) (sym (field-on text at here t l))
+    pub answers-on : at < length text → (next : List ℕ → Option B) → ((x : List ℕ) → next x ≡ says (getD text at NONE ∷ x)) → {r : A} {n : ℕ}
+        → Answers good bad next text (at + 1) r n → Answers good bad says text at r n
+    answers-on here next h {r} {n} (said x b more rest e s q is) =
+        said (getD text at NONE ∷ x) b more rest (field-on text at here t l ∙ rw e) (sym (h x) ∙ s) (omega arith) is
+    answers-on here next h {r} {n} (unsaid more u reach is) =
+        unsaid more (rw (field-on text at here t l) (later (fieldOf (drop (at + 1) text)) u))
+        (reaches-on (rw (look-within text at here) at (reaches-other text at in-text l)) reach) is
+      where
+        later : (k : Cut) → Unsaid next k → Unsaid says (cutAfter (getD text at NONE) k)
+        later endless u = tt
+        later (cut x m after) u = sym (h x) ∙ u
 
     -- no field begins so
-    pub answer-bad : ((x : List ℕ) (n : ℕ) (m : Bool) → go (getD text at NONE ∷ x) n m ≡ bad)
-        → bad ≡ answer bad go at (fieldOf (drop at text))
-    unfolding answer
-    answer-bad h =
-        ⊎-elim
-        (λ (here : at < length text). answer-same bad (at + 1) (fieldOf (drop (at + 1) text))
-        ∙ answer-on here (λ x n m. bad) (λ x n m. sym (h x n m)))
-        (λ (past : length text ≤ at). rw (field-past text at past))
-        (order at (length text))
+    pub answers-bad : ((x : List ℕ) → says (getD text at NONE ∷ x) ≡ none) → {r : A} → r ≡ bad true → Here r
+    answers-bad h is = unsaid true none-there (reaches-other text at in-text l) is
+      where
+        never : (k : Cut) → Unsaid says (cutAfter (getD text at NONE) k)
+        never endless = tt
+        never (cut x m after) = h x
+
+        none-there : Unsaid says (fieldOf (drop at text))
+        none-there =
+            ⊎-elim
+            (λ (here : at < length text). rw (field-on text at here t l) (never (fieldOf (drop (at + 1) text))))
+            (λ (past : length text ≤ at). rw (field-past text at past) tt)
+            (order at (length text))
 
 -- ---- the first field's bytes in the text
 

@@ -29,10 +29,20 @@ unfoldable pub fieldOf : List ℕ → Cut
 fieldOf [] = endless
 fieldOf (b ∷ bs) = cond (eqb b tab) (cut [] true bs) (cond (eqb b lineFeed) (cut [] false bs) (cutAfter b (fieldOf bs)))
 
--- what a reader answers: by the bytes of the first field, the place after its end and whether a tab ended it
-unfoldable pub answer : {A : Type 0} → A → (List ℕ → ℕ → Bool → A) → ℕ → Cut → A
-answer bad go at endless = bad
-answer bad go at (cut x more rest) = go x (at + (length x + 1)) more
+-- what its bytes say is nothing, or there is no field
+abbrev pub Unsaid : {B : Type 0} → (List ℕ → Option B) → Cut → Type 0
+Unsaid says endless = Unit {0}
+Unsaid says (cut x more rest) = says x ≡ none
+
+-- the answer r of a reader for the field at a place, each byte of it looked at once, n bytes of the text so far: what its bytes say, with
+-- the place after its end and whether a tab ended it; or it says nothing, and is left at a byte that shows it, where the line goes on or
+-- has ended
+pub data Answers {A B : Type 0} (good : B → ℕ → Bool → A) (bad : Bool → A) (says : List ℕ → Option B) (text : List ℕ) (at : ℕ) (r : A)
+    (n : ℕ) : Type 0 where
+  said : (x : List ℕ) (b : B) (more : Bool) (rest : List ℕ) → fieldOf (drop at text) ≡ cut x more rest → says x ≡ some b
+      → n ≡ at + (length x + 1) → r ≡ good b n more → Answers good bad says text at r n
+  unsaid : (more : Bool) → Unsaid says (fieldOf (drop at text)) → Reaches text at more n → r ≡ bad more
+      → Answers good bad says text at r n
 
 -- ---- the fields of a text's first line
 
@@ -76,25 +86,16 @@ clipped v = cond (ltb v (2 ^ 64)) v 18446744073709551615
 abbrev pub fitsIn : ℕ → Bool
 fitsIn v = ltb v (2 ^ 64)
 
-abbrev pub numberBy : Option ℕ → ℕ → Bool → Number
-numberBy none next more = Malformed
-numberBy (some v) next more = Is (clipped v) (fitsIn v) next more
+-- the answers for a number, and for none
+abbrev pub asNumber : ℕ → ℕ → Bool → Number
+asNumber v next more = Is (clipped v) (fitsIn v) next more
 
--- the number that the field at a place says
-abbrev pub asNumber : ℕ → Cut → Number
-asNumber = answer Malformed (λ x. numberBy (numberOf x))
+abbrev pub noNumber : Bool → Number
+noNumber true = Malformed
+noNumber false = MalformedAtEnd
 
--- an answer, whatever follows a malformed field
-abbrev pub shape : Number → Number
-shape Malformed = Malformed
-shape MalformedAtEnd = Malformed
-shape (Is value fits next more) = Is value fits next more
-
--- each byte of the field at a place was looked at once, n bytes of the text so far; of a malformed one as many as the reader needs
-abbrev pub Looked : List ℕ → ℕ → Number → ℕ → Type 0
-Looked text at Malformed n = Reaches text at true n
-Looked text at MalformedAtEnd n = Reaches text at false n
-Looked text at (Is value fits next more) n = n ≡ next
+abbrev pub ReadNumber : List ℕ → ℕ → Number → ℕ → Type 0
+ReadNumber = Answers asNumber noNumber numberOf
 
 -- ---- parts of the reader
 
@@ -124,5 +125,5 @@ moreOf n [] = some n
 moreOf n (b ∷ x) = cond (every isDigit (b ∷ x) && not (eqb n 0)) (some (valueAfter n (b ∷ x))) none
 
 -- the same of the field at a place
-abbrev pub moreDigits : ℕ → ℕ → Cut → Number
-moreDigits n = answer Malformed (λ x. numberBy (moreOf n x))
+abbrev pub MoreDigits : ℕ → List ℕ → ℕ → Number → ℕ → Type 0
+MoreDigits v = Answers asNumber noNumber (moreOf v)

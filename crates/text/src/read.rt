@@ -3,9 +3,9 @@
 // reader to reader: it is the place, as long as each byte before has been looked at once.
 ghost use mathlib.Core.Path.{_≡_};
 ghost use Prim.Native.Nat.{_≤_};
-ghost use lib.ListN.{length, drop, getD};
+ghost use lib.ListN.{length, getD};
 ghost use Rattle.text.specs.LineEnds.{lineEnd, afterLook};
-ghost use Rattle.text.specs.Fields.{NONE, fieldOf, asNumber, shape, Looked, Clipped, digitAfter, endNumber, moreDigits};
+ghost use Rattle.text.specs.Fields.{NONE, ReadNumber, Clipped, digitAfter, endNumber, MoreDigits};
 
 // A number's field as it was read: the place after its end, and whether a tab ended it, so that one more follows. A number of 2^64 or more
 // does not fit, and has the value 2^64 - 1. A malformed one is left at the byte that shows it: the line goes on, or has ended with that byte.
@@ -132,8 +132,7 @@ fn end_number(digits: Digits, end: u64, next: usize) -> Number
 // The rest of a number, after its first digit: none follows a leading zero.
 fn more_digits(text: &[u8], first: u64, from: usize, looks: &mut u64) -> Number
     requires { ⌜ (from ≤ length (now text)) × (now looks ≡ from) ⌝ }
-    ensures answer { λ r. ⌜ shape r ≡ moreDigits first from (fieldOf (drop from (now (text .entry)))) ⌝ }
-    ensures counted { λ r. ⌜ Looked (now (text .entry)) from r (now (looks .exit)) ⌝ }
+    ensures { λ r. ⌜ MoreDigits first (now (text .entry)) from r (now (looks .exit)) ⌝ }
 {
     let mut at = from;
     let mut digits = Digits {
@@ -160,8 +159,7 @@ fn more_digits(text: &[u8], first: u64, from: usize, looks: &mut u64) -> Number
 // A number: digits, no leading zero except 0 itself.
 pub fn read_number(text: &[u8], at: usize, looks: &mut u64) -> Number
     requires { ⌜ (at ≤ length (now text)) × (now looks ≡ at) ⌝ }
-    ensures answer { λ r. ⌜ shape r ≡ asNumber at (fieldOf (drop at (now (text .entry)))) ⌝ }
-    ensures counted { λ r. ⌜ Looked (now (text .entry)) at r (now (looks .exit)) ⌝ }
+    ensures { λ r. ⌜ ReadNumber (now (text .entry)) at r (now (looks .exit)) ⌝ }
 {
     let first = look(text, at, looks);
     if first < ZERO {

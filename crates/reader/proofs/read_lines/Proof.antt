@@ -1,7 +1,8 @@
 -- `reader::read_lines` meets its contract. Outer loop: the text from a line on comes to what the whole text does, the lines before are
 -- kept, and each byte of them was looked at once; inner loop: what is read of the line is in hand. Assumes nothing.
 use Prim.Native.Nat.{ℕ, _+_, _-_, _≤_, _<_}
-use mathlib.Core.Path.{_≡_, refl, sym, ap, _∙_}
+use mathlib.Core.Path.{_≡_, refl, sym, _∙_}
+use mathlib.Core.Bool.{true, false}
 use mathlib.Core.Logic.{_⊎_, ⊎-elim}
 use native.Mathlib.Omega.{arith}
 use borrow.Author.Needs.{needs}
@@ -9,17 +10,16 @@ use lib.ListN.{length}
 use Rattle.refusals.specs.declared.Refusal.{Refusal}
 use Rattle.refusals.specs.declared.Refusal.the-variants.{Malformed}
 use Rattle.runs.specs.Update.{clash}
-use Rattle.text.specs.LineEnds.{lineEnd, Reaches, reaches-on}
+use Rattle.text.specs.LineEnds.{lineEnd, Reaches}
 use Rattle.plan.specs.Plan.{Plan}
-use Rattle.plan.specs.PassFields.{accessShape}
 use Rattle.plan.specs.Reading.{refused}
 use Rattle.kept.specs.Layout.{taskRow}
 use Rattle.kept.specs.OrderLaws.{orders-length}
 use Rattle.kept.specs.TaskLaws.{tasks-length}
 use Rattle.lines.specs.declared.line.Fault.the-variants.{Nothing, Is}
 use Rattle.reader.specs.Verdict.{lent}
-use Rattle.reader.proofs.Turns.{comes, comes-formless, InLine, found, wrong-place, line-place, line-inside, access-next, access-read, access-wrong}
-use Rattle.reader.proofs.Turns.{so-far, ended-reach, line-refused, AtLine, text-begins, in-hand, not-formed, line-kept}
+use Rattle.reader.proofs.Turns.{comes, comes-formless, InLine, found, line-place, line-inside, access-next, access-read, access-wrong}
+use Rattle.reader.proofs.Turns.{ended-reach, line-refused, AtLine, text-begins, in-hand, not-formed, line-kept}
 use Rattle.reader.proofs.Turns.{gives-refused, gives-misplaced, gives-accepted}
 use Rattle.reader.proofs.read_lines.Statement.{statement}
 use Rattle.reader.proofs.read_lines.Tie as tie
@@ -49,10 +49,9 @@ start c = c .before .before .before .before .before
 -- the access that was read: the place after it
 one-access : (c : tie.After-access Inv-loop μ-loop Inv-lines μ-lines)
     → let l = c .before .before .before .before .before in let next = c .access .given .0 .1 .1 .0 in
-    (l .loop .at < next) × (next ≤ length (start (outer l) .args .text .now))
+    (l .loop .at < next) × (next ≤ length (start (outer l) .args .text .now)) × (c .before .before .read-access .last .1 .1 .0 ≡ next)
 one-access c =
-    let i = c .before .before .before .before .before .loop in
-    access-next _ (i .at) (i .inv .1) (sym (ap accessShape (c .access .given .1)) ∙ c .before .before .read-access .ensures .0)
+    access-next (c .before .before .before .before .before .loop .inv .1) (c .before .before .read-access .ensures) (c .access .given .1)
 
 by-five : {A B C D E X : Type 0} → A ⊎ (B ⊎ (C ⊎ (D ⊎ E))) → (A → X) → (B → X) → (C → X) → (D → X) → (E → X) → X
 by-five w f g h i j = ⊎-elim f (⊎-elim g (⊎-elim h (⊎-elim i j))) w
@@ -78,41 +77,31 @@ left c =
       λ r e.
           let q : Is Malformed ≡ Is r = sym (w .10) ∙ e in
           let m : Malformed ≡ r = cc in
-          let is = sym (w .6 .ensures) ∙ w .7 .taken in (
-            rw m at (not-formed g (w .3 .ensures .0) is (w .0 .taken)),
-            rw (w .9, w .8) (wrong-place text (o .looks) (w .3 .result) (w .3 .last .1 .1 .1 .1 .0) (w .3 .ensures .1) is),
-          ),
+          let (why, reach) = not-formed g (w .3 .ensures) (sym (w .6 .ensures) ∙ w .7 .taken) (w .0 .taken) in
+          (rw m at why, rw (w .9, w .8) reach),
     ))
     (λ w. (
       λ e. let q : Is Malformed ≡ Nothing = sym (w .16) ∙ e in clash (cc),
       λ r e.
           let q : Is Malformed ≡ Is r = sym (w .16) ∙ e in
           let m : Malformed ≡ r = cc in
-          let hand = in-hand g (w .3 .ensures .0) (sym (w .6 .ensures) ∙ w .7 .left) (w .5 .ensures) (w .8 .inv .3) in
-          let in-line = found hand (w .9 .taken) in
-          let is = w .13 .given .1 in (
-            rw m at (comes-formless (g .p) (o .number) _ (o .looks) (w .0 .taken)
-                (access-wrong in-line (sym (ap accessShape is) ∙ w .11 .ensures .0))),
-            rw (w .15 ∙ w .9 .taken, w .14) (reaches-on (so-far in-line) (rw is at (w .11 .ensures .1))),
-          ),
+          let hand = in-hand g (w .3 .ensures) (sym (w .6 .ensures) ∙ w .7 .left) (w .5 .ensures) (w .8 .inv .3) in
+          let (formless, reach) = access-wrong (found hand (w .9 .taken)) (w .11 .ensures) true (w .13 .given .1) in
+          (rw m at (comes-formless (g .p) (o .number) _ (o .looks) (w .0 .taken) formless), rw (w .15 ∙ w .9 .taken, w .14) reach),
     ))
     (λ w. (
       λ e. let q : Is Malformed ≡ Nothing = sym (w .16) ∙ e in clash (cc),
       λ r e.
           let q : Is Malformed ≡ Is r = sym (w .16) ∙ e in
           let m : Malformed ≡ r = cc in
-          let hand = in-hand g (w .3 .ensures .0) (sym (w .6 .ensures) ∙ w .7 .left) (w .5 .ensures) (w .8 .inv .3) in
-          let in-line = found hand (w .9 .taken) in
-          let is = w .13 .given .1 in (
-            rw m at (comes-formless (g .p) (o .number) _ (o .looks) (w .0 .taken)
-                (access-wrong in-line (sym (ap accessShape is) ∙ w .11 .ensures .0))),
-            rw (w .15, w .14) (reaches-on (so-far in-line) (rw is at (w .11 .ensures .1))),
-          ),
+          let hand = in-hand g (w .3 .ensures) (sym (w .6 .ensures) ∙ w .7 .left) (w .5 .ensures) (w .8 .inv .3) in
+          let (formless, reach) = access-wrong (found hand (w .9 .taken)) (w .11 .ensures) false (w .13 .given .1) in
+          (rw m at (comes-formless (g .p) (o .number) _ (o .looks) (w .0 .taken) formless), rw (w .15, w .14) reach),
     ))
     (λ w. (
       λ e. let q : Is (w .12 .given .0 .0) ≡ Nothing = sym (w .12 .given .1) ∙ sym (w .15) ∙ e in clash (cc),
       λ r e.
-          let hand = in-hand g (w .3 .ensures .0) (sym (w .6 .ensures) ∙ w .7 .left) (w .5 .ensures) (w .8 .inv .3) in
+          let hand = in-hand g (w .3 .ensures) (sym (w .6 .ensures) ∙ w .7 .left) (w .5 .ensures) (w .8 .inv .3) in
           let whole-line = found hand (w .9 .left) in (
             line-refused (o .number) whole-line r (rw (g .sums .tasks) at (sym (w .10 .ensures) ∙ sym (w .15) ∙ e)),
             rw (w .14 ∙ w .9 .left, w .13 ∙ w .8 .inv .2) (ended-reach whole-line),
@@ -130,7 +119,7 @@ one-line c =
     let l = c .before .before .before .before .before .before .before .before in
     let g = outer l .lines .inv .2 in
     let right = sym (l .before .before .is-wrong .ensures) ∙ l .before .if1 .left in
-    let hand = in-hand g (l .before .before .before .before .before .read-line .ensures .0) right (l .before .before .before .no-accesses .ensures) (l .loop .inv .3) in
+    let hand = in-hand g (l .before .before .before .before .before .read-line .ensures) right (l .before .before .before .no-accesses .ensures) (l .loop .inv .3) in
     line-kept g (c .keep .ensures) (found hand (c .before .before .before .before .before .before .before .loop-test .left))
     (sym (c .before .before .before .before .before .before .judge .ensures) ∙ c .before .before .before .before .enum-told4 .given .1)
 
@@ -157,8 +146,8 @@ loop-holds c =
     let read = c .before .before .before .before .read-line in
     let g = c .before .before .before .before .before .before .before .before .lines .inv .2 in
     let right = sym (c .before .is-wrong .ensures) ∙ c .if1 .left in
-    let hand = in-hand g (read .ensures .0) right (c .before .before .no-accesses .ensures) (λ begin p l. l) in
-    (search needs, line-inside hand, line-place _ _ (read .result) (read .last .1 .1 .1 .1 .0) (read .ensures .1) right, λ begin p l. l)
+    let hand = in-hand g (read .ensures) right (c .before .before .no-accesses .ensures) (λ begin p l. l) in
+    (search needs, line-inside hand, sym (line-place (read .ensures (g .p) (g .sums)) right), λ begin p l. l)
 
 read-access-requires : tie.Need-read-access-requires Inv-loop μ-loop Inv-lines μ-lines
 read-access-requires c κs = search needs
@@ -188,10 +177,10 @@ loop-again c =
     let read = x .before .before .read-access in (
       search needs,
       one-access x .1,
-      rw (x .access .given .1) at (read .ensures .1),
+      one-access x .2,
       λ begin p hand.
           access-read (rw (x .before .before .before .before .loop-test .taken) at (l .loop .inv .3 begin p hand))
-          (sym (ap accessShape (x .access .given .1)) ∙ read .ensures .0) (c .before .with-access .ensures),
+          (read .ensures) (x .access .given .1) (c .before .with-access .ensures),
     )
 
 judge-requires : tie.Need-judge-requires Inv-loop μ-loop Inv-lines μ-lines

@@ -1,12 +1,9 @@
 -- `lines::line::capacity_line` meets its contract: by what was read of the capacity. Assumes nothing.
-use mathlib.Core.Path.{ap}
-use mathlib.Core.Bool.{true}
+use mathlib.Core.Bool.{true, false}
 use borrow.Author.Needs.{needs}
-use Rattle.text.specs.Fields.{shape}
-use Rattle.text.specs.FieldLaws.{fields-reach}
 use Rattle.plan.specs.declared.form.Form.the-variants.{Second}
 use Rattle.lines.specs.Lines.{secondForm}
-use Rattle.lines.proofs.Wholes.{first-told, wrong-looked, one-untold, one-goes-on, one-formed, workers-judged}
+use Rattle.lines.proofs.Wholes.{first-told, one-untold, one-goes-on, one-formed, workers-judged}
 use Rattle.lines.proofs.line.capacity_line.Statement.{statement}
 use Rattle.lines.proofs.line.capacity_line.Tie as tie
 
@@ -37,11 +34,9 @@ returns c =
     let start = number .before .before .before .before .before in
     let read = number .before .before .read-number in
     let is = number .capacity .given .1 in
-    let t = first-told (start .args .text .now) (start .args .at) (start .pre .0) (read .result) (read .ensures .0) is (c .before .if1 .taken) in (
-      λ p n m place workers slots.
-          one-goes-on (start .args .text .now) (start .args .at) (start .pre .0) p (c .wrong3 .ensures) (secondForm p n m) t,
-      wrong-looked (c .wrong3 .ensures) (rw (rw is at (read .ensures .1)) (fields-reach true (t .fields))),
-    )
+    let t = first-told (start .pre .0) (read .ensures) is (c .before .if1 .taken) in
+    λ p n m place workers slots.
+    one-goes-on (start .pre .0) p (secondForm p n m) (c .wrong3 .ensures) t
 
 form-line-requires : tie.Need-form-line-requires
 form-line-requires c κs = search needs
@@ -49,24 +44,16 @@ form-line-requires c κs = search needs
 returns-2 : tie.Need-returns-2
 returns-2 c =
     let start = c .before .before .before .before .before .before in
-    let read = c .before .before .before .read-number in
-    let is = c .before .enum-told .given .1 in (
-      λ p n m place workers slots.
-          one-untold (start .args .text .now) (start .args .at) (start .pre .0) p (c .wrong .ensures) (secondForm p n m) (read .result)
-          (read .ensures .0) (ap shape is),
-      wrong-looked (c .wrong .ensures) (rw is at (read .ensures .1)),
-    )
+    λ p n m place workers slots.
+    one-untold (start .pre .0) p (secondForm p n m) true (c .wrong .ensures) _ (c .before .before .before .read-number .ensures)
+    (c .before .enum-told .given .1)
 
 returns-3 : tie.Need-returns-3
 returns-3 c =
     let start = c .before .before .before .before .before .before in
-    let read = c .before .before .before .read-number in
-    let is = c .before .enum-told2 .given .1 in (
-      λ p n m place workers slots.
-          one-untold (start .args .text .now) (start .args .at) (start .pre .0) p (c .wrong2 .ensures) (secondForm p n m) (read .result)
-          (read .ensures .0) (ap shape is),
-      wrong-looked (c .wrong2 .ensures) (rw is at (read .ensures .1)),
-    )
+    λ p n m place workers slots.
+    one-untold (start .pre .0) p (secondForm p n m) false (c .wrong2 .ensures) _ (c .before .before .before .read-number .ensures)
+    (c .before .enum-told2 .given .1)
 
 returns-4 : tie.Need-returns-4
 returns-4 c =
@@ -74,14 +61,11 @@ returns-4 c =
     let start = number .before .before .before .before .before in
     let read = number .before .before .read-number in
     let is = number .capacity .given .1 in
-    let t = first-told (start .args .text .now) (start .args .at) (start .pre .0) (read .result) (read .ensures .0) is (c .before .if1 .left) in
-    let ended = c .form-line .ensures .1 in (
-      λ p n m place workers slots.
-          one-formed (secondForm p n m) t
-          (workers-judged p n (Second m (t .number)) (number .capacity .given .0 .1 .1 .0) workers (cc (slots, t .held))
-          (c .form-line .ensures .0 p place)),
-      rw (ended .0, ended .1) (rw is at (read .ensures .1)),
-    )
+    let t = first-told (start .pre .0) (read .ensures) is (c .before .if1 .left) in
+    λ p n m place workers slots.
+    one-formed (secondForm p n m) t
+    (workers-judged p n (Second m (t .number)) (number .capacity .given .0 .1 .1 .0) workers (cc (slots, t .held))
+    (c .form-line .ensures p place))
 
 pub capacity-line-spec : {M : Type 1} → statement M
 capacity-line-spec =

@@ -1,13 +1,11 @@
 -- `lines::line::count_line` meets its contract: by what was read of the count. Assumes nothing.
-use mathlib.Core.Path.{sym, ap, _∙_}
-use mathlib.Core.Bool.{true}
+use mathlib.Core.Path.{sym, _∙_}
+use mathlib.Core.Bool.{true, false}
 use native.Mathlib.Omega.{arith}
 use borrow.Author.Needs.{needs}
 use Rattle.runs.specs.Tests.{or-left, or-right}
-use Rattle.text.specs.Fields.{shape}
-use Rattle.text.specs.FieldLaws.{fields-reach}
 use Rattle.lines.specs.Lines.{countLine}
-use Rattle.lines.proofs.Wholes.{first-told, wrong-looked, one-untold, one-goes-on, one-formed, count-judged, bounded}
+use Rattle.lines.proofs.Wholes.{first-told, one-untold, one-goes-on, one-formed, count-judged, bounded}
 use Rattle.lines.proofs.line.count_line.Statement.{statement}
 use Rattle.lines.proofs.line.count_line.Tie as tie
 
@@ -38,13 +36,10 @@ returns c =
     let start = number .before .before .before .before .before in
     let read = number .before .before .read-number in
     let is = number .n .given .1 in
-    let t = first-told (start .args .text .now) (start .args .at) (start .pre .0) (read .result) (read .ensures .0) is
-    (c .before .if1 .taken) in (
-      λ p inRange order at-start before coded.
-          one-goes-on (start .args .text .now) (start .args .at) (start .pre .0) p (c .wrong3 .ensures)
-          (countLine p inRange (start .args .most) order) t,
-      wrong-looked (c .wrong3 .ensures) (rw (rw is at (read .ensures .1)) (fields-reach true (t .fields))),
-    )
+    let t = first-told (start .pre .0) (read .ensures) is
+    (c .before .if1 .taken) in
+    λ p inRange order at-start before coded.
+    one-goes-on (start .pre .0) p (countLine p inRange (start .args .most) order) (c .wrong3 .ensures) t
 
 outside-requires : tie.Need-outside-requires
 outside-requires c κs = search needs
@@ -70,24 +65,16 @@ order-line-requires c κs e =
 returns-2 : tie.Need-returns-2
 returns-2 c =
     let start = c .before .before .before .before .before .before in
-    let read = c .before .before .before .read-number in
-    let is = c .before .enum-told .given .1 in (
-      λ p inRange order at-start before coded.
-          one-untold (start .args .text .now) (start .args .at) (start .pre .0) p (c .wrong .ensures) (countLine p inRange (start .args .most) order) (read .result)
-          (read .ensures .0) (ap shape is),
-      wrong-looked (c .wrong .ensures) (rw is at (read .ensures .1)),
-    )
+    λ p inRange order at-start before coded.
+    one-untold (start .pre .0) p (countLine p inRange (start .args .most) order) true (c .wrong .ensures) _ (c .before .before .before .read-number .ensures)
+    (c .before .enum-told .given .1)
 
 returns-3 : tie.Need-returns-3
 returns-3 c =
     let start = c .before .before .before .before .before .before in
-    let read = c .before .before .before .read-number in
-    let is = c .before .enum-told2 .given .1 in (
-      λ p inRange order at-start before coded.
-          one-untold (start .args .text .now) (start .args .at) (start .pre .0) p (c .wrong2 .ensures) (countLine p inRange (start .args .most) order) (read .result)
-          (read .ensures .0) (ap shape is),
-      wrong-looked (c .wrong2 .ensures) (rw is at (read .ensures .1)),
-    )
+    λ p inRange order at-start before coded.
+    one-untold (start .pre .0) p (countLine p inRange (start .args .most) order) false (c .wrong2 .ensures) _ (c .before .before .before .read-number .ensures)
+    (c .before .enum-told2 .given .1)
 
 returns-4 : tie.Need-returns-4
 returns-4 c =
@@ -95,18 +82,16 @@ returns-4 c =
     let start = number .before .before .before .before .before in
     let read = number .before .before .read-number in
     let told = number .n .given in
-    let t = first-told (start .args .text .now) (start .args .at) (start .pre .0) (read .result) (read .ensures .0) (told .1)
+    let t = first-told (start .pre .0) (read .ensures) (told .1)
     (c .before .before .before .if1 .left) in
     let a = start .args in
     let far = c .before .before .outside in
     let out = c .before .either in
-    let line = c .order-line .ensures in (
-      λ p inRange order at-start before coded.
-          one-formed (countLine p inRange (a .most) order) t
-          (count-judged p (a .misplaced) at-start (told .0 .1 .1 .0) inRange (a .most) order (t .number) (told .0 .0) (a .who) (a .out)
-          (far .result) (out .result) (start .pre .1) (t .held) before (far .ensures) (out .ensures) coded line),
-      rw (line .kind, line .after) (rw (told .1) at (read .ensures .1)),
-    )
+    let line = c .order-line .ensures in
+    λ p inRange order at-start before coded.
+    one-formed (countLine p inRange (a .most) order) t
+    (count-judged p (a .misplaced) at-start (told .0 .1 .1 .0) inRange (a .most) order (t .number) (told .0 .0) (a .who) (a .out)
+    (far .result) (out .result) (start .pre .1) (t .held) before (far .ensures) (out .ensures) coded line)
 
 pub count-line-spec : {M : Type 1} → statement M
 count-line-spec =

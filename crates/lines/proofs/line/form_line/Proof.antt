@@ -1,5 +1,4 @@
 -- `lines::line::form_line` meets its contract: its fault is the one that was judged. Assumes nothing.
-use mathlib.Core.Path.{refl}
 use borrow.Author.Needs.{needs}
 use Rattle.lines.proofs.line.form_line.Statement.{statement}
 use Rattle.lines.proofs.line.form_line.Tie as tie
@@ -8,7 +7,7 @@ workers-fault-requires : tie.Need-workers-fault-requires
 workers-fault-requires c κs = search needs
 
 returns : tie.Need-returns
-returns c = (λ p place. rw (c .workers-fault .ensures p place), (refl, refl))
+returns c = λ p place. rw (c .workers-fault .ensures p place)
 
 pub form-line-spec : {M : Type 1} → statement M
 form-line-spec =

@@ -1,15 +1,12 @@
 -- `lines::line::picks_line` meets its contract: by what was read of the worker, and of the count after it. Assumes nothing.
-use mathlib.Core.Path.{ap}
 use mathlib.Core.Bool.{true, false}
 use native.Mathlib.Omega.{arith}
 use lib.Dec.{ltb}
 use borrow.Author.Needs.{needs}
 use borrow.Author.Tests.{leb-false, not-true, not-false}
-use Rattle.text.specs.Fields.{shape}
-use Rattle.text.specs.FieldLaws.{fields-reach}
 use Rattle.plan.specs.Plan.{picks}
 use Rattle.plan.specs.Line.{picksLine}
-use Rattle.lines.proofs.Wholes.{first-told, line-looked, wrong-looked, two-untold, two-ends, two-formed}
+use Rattle.lines.proofs.Wholes.{first-told, two-untold, two-ends, two-formed}
 use Rattle.lines.proofs.Wholes.{none-yet, worker-range, worker-coded}
 use Rattle.lines.proofs.line.picks_line.Statement.{statement}
 use Rattle.lines.proofs.line.picks_line.Tie as tie
@@ -41,11 +38,9 @@ returns c =
     let start = first .before .before .before .before .before in
     let read = first .before .before .read-number in
     let is = first .worker .given .1 in
-    let t = first-told (start .args .text .now) (start .args .at) (start .pre .0) (read .result) (read .ensures .0) is
-    (not-true _ (c .before .if1 .taken)) in (
-      λ p sums. two-ends (start .args .text .now) (start .args .at) (start .pre .0) p (c .wrong3 .ensures) (picksLine p) t,
-      wrong-looked (c .wrong3 .ensures) (rw (rw is at (read .ensures .1)) (fields-reach false (t .fields))),
-    )
+    let t = first-told (start .pre .0) (read .ensures) is
+    (not-true _ (c .before .if1 .taken)) in
+    λ p sums. two-ends (start .pre .0) p (picksLine p) (c .wrong3 .ensures) t
 
 count-line-requires : tie.Need-count-line-requires
 count-line-requires c κs =
@@ -53,35 +48,27 @@ count-line-requires c κs =
     let start = first .before .before .before .before .before in
     let read = first .before .before .read-number in
     let is = first .worker .given .1 in
-    let t = first-told (start .args .text .now) (start .args .at) (start .pre .0) (read .result) (read .ensures .0) is
+    let t = first-told (start .pre .0) (read .ensures) is
     (not-false _ (c .before .before .before .if1 .left)) in (
       t .fields .within,
       omega arith,
       λ e. omega (arith, start .pre .1, leb-false (start .args .sofar .workers) (first .worker .given .0 .0) e),
-      rw is at (read .ensures .1),
+      t .looked,
     )
 
 returns-2 : tie.Need-returns-2
 returns-2 c =
     let start = c .before .before .before .before .before .before in
-    let read = c .before .before .before .read-number in
-    let is = c .before .enum-told .given .1 in (
-      λ p sums.
-          two-untold (start .args .text .now) (start .args .at) (start .pre .0) p (c .wrong .ensures) (picksLine p) (read .result)
-          (read .ensures .0) (ap shape is),
-      wrong-looked (c .wrong .ensures) (rw is at (read .ensures .1)),
-    )
+    λ p sums.
+    two-untold (start .pre .0) p (picksLine p) true (c .wrong .ensures) _ (c .before .before .before .read-number .ensures)
+    (c .before .enum-told .given .1)
 
 returns-3 : tie.Need-returns-3
 returns-3 c =
     let start = c .before .before .before .before .before .before in
-    let read = c .before .before .before .read-number in
-    let is = c .before .enum-told2 .given .1 in (
-      λ p sums.
-          two-untold (start .args .text .now) (start .args .at) (start .pre .0) p (c .wrong2 .ensures) (picksLine p) (read .result)
-          (read .ensures .0) (ap shape is),
-      wrong-looked (c .wrong2 .ensures) (rw is at (read .ensures .1)),
-    )
+    λ p sums.
+    two-untold (start .pre .0) p (picksLine p) false (c .wrong2 .ensures) _ (c .before .before .before .read-number .ensures)
+    (c .before .enum-told2 .given .1)
 
 returns-4 : tie.Need-returns-4
 returns-4 c =
@@ -89,17 +76,15 @@ returns-4 c =
     let start = first .before .before .before .before .before in
     let read = first .before .before .read-number in
     let is = first .worker .given .1 in
-    let t = first-told (start .args .text .now) (start .args .at) (start .pre .0) (read .result) (read .ensures .0) is
+    let t = first-told (start .pre .0) (read .ensures) is
     (not-false _ (c .before .before .before .before .if1 .left)) in
     let worker = first .worker .given .0 .0 in
-    let rest = c .count-line in (
-      λ p sums.
-          two-formed (picksLine p) t
-          (rest .ensures .0 p (ltb (t .number) (p .workers)) (picks (t .number)) (none-yet sums)
-          (worker-range (start .args .sofar) p sums (start .pre .1) (t .number) worker (t .held))
-          (worker-coded (start .args .sofar) p sums (start .pre .1) (t .number) worker (t .held))),
-      line-looked (fields-reach true (t .fields)) (rest .result) (rest .last .1 .1 .1 .1 .1 .1 .1 .0) (rest .ensures .1),
-    )
+    let rest = c .count-line in
+    λ p sums.
+    two-formed (picksLine p) t
+    (rest .ensures p (ltb (t .number) (p .workers)) (picks (t .number)) (none-yet sums)
+    (worker-range (start .args .sofar) p sums (start .pre .1) (t .number) worker (t .held))
+    (worker-coded (start .args .sofar) p sums (start .pre .1) (t .number) worker (t .held)))
 
 pub picks-line-spec : {M : Type 1} → statement M
 picks-line-spec =

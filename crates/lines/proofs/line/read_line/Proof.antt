@@ -7,7 +7,6 @@ use borrow.Author.Needs.{needs}
 use lib.ListN.{length}
 use Rattle.text.specs.LineEnds.{Reaches, look-within, reaches-on, reaches-feed, reaches-other, reaches-look}
 use Rattle.plan.specs.Line.{'P', 'R', 'S', 'W', workersLine, picksLine, roundsLine, seededLine, oneNumber, twoNumbers, inForm, lineBy}
-use Rattle.lines.proofs.Wholes.{line-looked, wrong-looked}
 use Rattle.lines.proofs.Letters.{fields-on, whole-line, task-line, no-tab, no-letter}
 use Rattle.lines.proofs.line.read_line.Statement.{statement}
 use Rattle.lines.proofs.line.read_line.Tie as tie
@@ -48,11 +47,11 @@ returns c =
     let start = c .before .before .before .before .before .before in
     let a = start .args in
     let seen = c .before .before .look .ensures in
-    let feed = sym (seen .0) ∙ c .before .if1 .taken in (
-      λ p sums.
-          no-letter (a .text .now) (a .at) (c .wrong .ensures) 10 feed (omega arith) (omega arith) (omega arith) (omega arith) (omega arith),
-      wrong-looked (c .wrong .ensures) (rw (seen .1) (reaches-feed (a .text .now) (a .at) (omega (arith, start .pre .0)) feed)),
-    )
+    let feed = sym (seen .0) ∙ c .before .if1 .taken in
+    let reach = reaches-feed (a .text .now) (a .at) (omega (arith, start .pre .0)) feed in
+    λ p sums.
+    rw (seen .1) (no-letter (a .text .now) (a .at) (c .wrong .ensures) reach 10 feed (omega arith) (omega arith) (omega arith) (omega arith)
+    (omega arith))
 
 add-look : tie.Need-add-look
 add-look c = search needs
@@ -69,11 +68,9 @@ returns-2 c =
     let a = start .args in
     let seen = c .before .before .look2 .ensures in
     let first = after-first (c .before .before .before .before) in
-    let in-text : a .at + 1 ≤ length (a .text .now) = omega (arith, start .pre .0) in (
-      λ p sums. no-tab (a .text .now) (a .at) (c .wrong2 .ensures) (omega (arith, seen .0)),
-      wrong-looked (c .wrong2 .ensures)
-          (reaches-on (first .1) (rw (seen .0, seen .1) (reaches-look (a .text .now) (a .at + 1) in-text))),
-    )
+    let in-text : a .at + 1 ≤ length (a .text .now) = omega (arith, start .pre .0) in
+    let reach = reaches-on (first .1) (reaches-look (a .text .now) (a .at + 1) in-text) in
+    λ p sums. rw (seen .1) (no-tab (a .text .now) (a .at) (rw (seen .0) at (c .wrong2 .ensures)) reach (omega (arith, seen .0)))
 
 add-workers-line : tie.Need-add-workers-line
 add-workers-line c = search needs
@@ -126,13 +123,10 @@ returns-3 c =
     let a = c .before .before .before .before .before .before .before .before .before .before .before .args in
     let letter = c .before .before .before .before .before .before .before .look .ensures .0 in
     let tab = c .before .before .before .before .look2 .ensures .0 in
-    let after = after-tab (c .before .before .before) in
-    let rest = c .workers-line in (
-      λ p sums.
-          whole-line (a .text .now) (a .at) 'W' (omega (arith, letter)) (omega (arith, tab)) (omega arith) (omega arith)
-          (inForm (workersLine p)) (λ fs. refl) (rest .ensures .0 p sums),
-      line-looked (after .2) (rest .result) (rest .last .1 .1 .1 .0) (rest .ensures .1),
-    )
+    let rest = c .workers-line in
+    λ p sums.
+    whole-line (a .text .now) (a .at) 'W' (omega (arith, letter)) (omega (arith, tab)) (omega arith) (omega arith)
+    (inForm (workersLine p)) (λ fs. refl) (rest .ensures p sums)
 
 same-length : tie.Need-same-length
 same-length c = search needs
@@ -142,11 +136,8 @@ returns-4 c =
     let a = c .before .before .before .before .before .before .before .before .before .before .before .before .before .before .args in
     let letter = c .before .before .before .before .before .before .before .before .before .before .look .ensures .0 in
     let tab = c .before .before .before .before .before .before .before .look2 .ensures .0 in
-    let after = after-tab (c .before .before .before .before .before .before) in
-    let rest = c .before .before .task-line in (
-      λ p sums. task-line (a .text .now) (a .at) (omega (arith, letter)) (omega (arith, tab)) (rest .ensures .0 p sums),
-      line-looked (after .2) (rest .result) (rest .last .1 .1 .1 .1 .0) (rest .ensures .1),
-    )
+    let rest = c .before .before .task-line in
+    λ p sums. task-line (a .text .now) (a .at) (omega (arith, letter)) (omega (arith, tab)) (rest .ensures p sums)
 
 returns-5 : tie.Need-returns-5
 unfolding lineBy
@@ -154,13 +145,10 @@ returns-5 c =
     let a = c .before .before .before .before .before .before .before .before .before .before .before .args in
     let letter = c .before .before .before .before .before .before .before .look .ensures .0 in
     let tab = c .before .before .before .before .look2 .ensures .0 in
-    let after = after-tab (c .before .before .before) in
-    let rest = c .picks-line in (
-      λ p sums.
-          whole-line (a .text .now) (a .at) 'P' (omega (arith, letter)) (omega (arith, tab)) (omega arith) (omega arith)
-          (twoNumbers (picksLine p)) (λ fs. refl) (rest .ensures .0 p sums),
-      line-looked (after .2) (rest .result) (rest .last .1 .1 .1 .0) (rest .ensures .1),
-    )
+    let rest = c .picks-line in
+    λ p sums.
+    whole-line (a .text .now) (a .at) 'P' (omega (arith, letter)) (omega (arith, tab)) (omega arith) (omega arith)
+    (twoNumbers (picksLine p)) (λ fs. refl) (rest .ensures p sums)
 
 returns-6 : tie.Need-returns-6
 unfolding lineBy
@@ -168,13 +156,10 @@ returns-6 c =
     let a = c .before .before .before .before .before .before .before .before .before .before .before .args in
     let letter = c .before .before .before .before .before .before .before .look .ensures .0 in
     let tab = c .before .before .before .before .look2 .ensures .0 in
-    let after = after-tab (c .before .before .before) in
-    let rest = c .rounds-line in (
-      λ p sums.
-          whole-line (a .text .now) (a .at) 'R' (omega (arith, letter)) (omega (arith, tab)) (omega arith) (omega arith)
-          (oneNumber (roundsLine p)) (λ fs. refl) (rest .ensures .0 p sums),
-      line-looked (after .2) (rest .result) (rest .last .1 .1 .1 .0) (rest .ensures .1),
-    )
+    let rest = c .rounds-line in
+    λ p sums.
+    whole-line (a .text .now) (a .at) 'R' (omega (arith, letter)) (omega (arith, tab)) (omega arith) (omega arith)
+    (oneNumber (roundsLine p)) (λ fs. refl) (rest .ensures p sums)
 
 returns-7 : tie.Need-returns-7
 unfolding lineBy
@@ -182,25 +167,20 @@ returns-7 c =
     let a = c .before .before .before .before .before .before .before .before .before .before .before .args in
     let letter = c .before .before .before .before .before .before .before .look .ensures .0 in
     let tab = c .before .before .before .before .look2 .ensures .0 in
-    let after = after-tab (c .before .before .before) in
-    let rest = c .seeded-line in (
-      λ p sums.
-          whole-line (a .text .now) (a .at) 'S' (omega (arith, letter)) (omega (arith, tab)) (omega arith) (omega arith)
-          (twoNumbers (seededLine p)) (λ fs. refl) (rest .ensures .0 p sums),
-      line-looked (after .2) (rest .result) (rest .last .1 .1 .1 .0) (rest .ensures .1),
-    )
+    let rest = c .seeded-line in
+    λ p sums.
+    whole-line (a .text .now) (a .at) 'S' (omega (arith, letter)) (omega (arith, tab)) (omega arith) (omega arith)
+    (twoNumbers (seededLine p)) (λ fs. refl) (rest .ensures p sums)
 
 returns-8 : tie.Need-returns-8
 returns-8 c =
     let look = c .before .before .before .before .before .before in
     let a = c .before .before .before .before .before .before .before .before .before .before .args in
     let others = c .before .match .rest in
-    let after = after-tab (c .before .before) in (
-      λ p sums.
-          no-letter (a .text .now) (a .at) (c .wrong3 .ensures) (look .look .result) (sym (look .look .ensures .0))
-          (others .0 .0 .0 .0 .1) (others .0 .0 .0 .1) (others .0 .0 .1) (others .0 .1) (others .1),
-      wrong-looked (c .wrong3 .ensures) (rw (after .1) (after .2)),
-    )
+    let after = after-tab (c .before .before) in
+    λ p sums.
+    rw (after .1) (no-letter (a .text .now) (a .at) (c .wrong3 .ensures) (after .2) (look .look .result) (sym (look .look .ensures .0))
+    (others .0 .0 .0 .0 .1) (others .0 .0 .0 .1) (others .0 .0 .1) (others .0 .1) (others .1))
 
 pub read-line-spec : {M : Type 1} → statement M
 read-line-spec =

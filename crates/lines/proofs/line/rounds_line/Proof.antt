@@ -13,7 +13,7 @@ count-line-requires c κs = search needs
 returns : tie.Need-returns
 returns c =
     let line = c .count-line .ensures in
-    (λ p sums. line .0 p true rounds (none-yet sums) refl (λ q n. (refl, refl)), line .1)
+    λ p sums. line p true rounds (none-yet sums) refl (λ q n. (refl, refl))
 
 pub rounds-line-spec : {M : Type 1} → statement M
 rounds-line-spec = tie.close (tie.spec count-line-requires returns)

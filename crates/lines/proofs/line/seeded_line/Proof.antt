@@ -4,11 +4,10 @@ use mathlib.Core.Bool.{true, false, not}
 use native.Mathlib.Omega.{arith}
 use borrow.Author.Needs.{needs}
 use borrow.Author.Tests.{not-true, not-false}
-use Rattle.text.specs.Fields.{shape, fitsIn}
-use Rattle.text.specs.FieldLaws.{fields-reach}
+use Rattle.text.specs.Fields.{fitsIn}
 use Rattle.plan.specs.Plan.{seeded}
 use Rattle.plan.specs.Line.{seededLine}
-use Rattle.lines.proofs.Wholes.{first-told, line-looked, wrong-looked, two-untold, two-ends, two-formed}
+use Rattle.lines.proofs.Wholes.{first-told, two-untold, two-ends, two-formed}
 use Rattle.lines.proofs.Wholes.{none-yet, seed-coded}
 use Rattle.lines.proofs.line.seeded_line.Statement.{statement}
 use Rattle.lines.proofs.line.seeded_line.Tie as tie
@@ -40,11 +39,9 @@ returns c =
     let start = first .before .before .before .before .before in
     let read = first .before .before .read-number in
     let is = first .seed .given .1 in
-    let t = first-told (start .args .text .now) (start .args .at) (start .pre .0) (read .result) (read .ensures .0) is
-    (not-true _ (c .before .if1 .taken)) in (
-      λ p sums. two-ends (start .args .text .now) (start .args .at) (start .pre .0) p (c .wrong3 .ensures) (seededLine p) t,
-      wrong-looked (c .wrong3 .ensures) (rw (rw is at (read .ensures .1)) (fields-reach false (t .fields))),
-    )
+    let t = first-told (start .pre .0) (read .ensures) is
+    (not-true _ (c .before .if1 .taken)) in
+    λ p sums. two-ends (start .pre .0) p (seededLine p) (c .wrong3 .ensures) t
 
 count-line-requires : tie.Need-count-line-requires
 count-line-requires c κs =
@@ -52,31 +49,23 @@ count-line-requires c κs =
     let start = first .before .before .before .before .before in
     let read = first .before .before .read-number in
     let is = first .seed .given .1 in
-    let t = first-told (start .args .text .now) (start .args .at) (start .pre .0) (read .result) (read .ensures .0) is
+    let t = first-told (start .pre .0) (read .ensures) is
     (not-false _ (c .before .before .if1 .left)) in
-    (t .fields .within, omega arith, λ e. omega arith, rw is at (read .ensures .1))
+    (t .fields .within, omega arith, λ e. omega arith, t .looked)
 
 returns-2 : tie.Need-returns-2
 returns-2 c =
     let start = c .before .before .before .before .before .before in
-    let read = c .before .before .before .read-number in
-    let is = c .before .enum-told .given .1 in (
-      λ p sums.
-          two-untold (start .args .text .now) (start .args .at) (start .pre .0) p (c .wrong .ensures) (seededLine p) (read .result)
-          (read .ensures .0) (ap shape is),
-      wrong-looked (c .wrong .ensures) (rw is at (read .ensures .1)),
-    )
+    λ p sums.
+    two-untold (start .pre .0) p (seededLine p) true (c .wrong .ensures) _ (c .before .before .before .read-number .ensures)
+    (c .before .enum-told .given .1)
 
 returns-3 : tie.Need-returns-3
 returns-3 c =
     let start = c .before .before .before .before .before .before in
-    let read = c .before .before .before .read-number in
-    let is = c .before .enum-told2 .given .1 in (
-      λ p sums.
-          two-untold (start .args .text .now) (start .args .at) (start .pre .0) p (c .wrong2 .ensures) (seededLine p) (read .result)
-          (read .ensures .0) (ap shape is),
-      wrong-looked (c .wrong2 .ensures) (rw is at (read .ensures .1)),
-    )
+    λ p sums.
+    two-untold (start .pre .0) p (seededLine p) false (c .wrong2 .ensures) _ (c .before .before .before .read-number .ensures)
+    (c .before .enum-told2 .given .1)
 
 returns-4 : tie.Need-returns-4
 returns-4 c =
@@ -84,15 +73,13 @@ returns-4 c =
     let start = first .before .before .before .before .before in
     let read = first .before .before .read-number in
     let is = first .seed .given .1 in
-    let t = first-told (start .args .text .now) (start .args .at) (start .pre .0) (read .result) (read .ensures .0) is
+    let t = first-told (start .pre .0) (read .ensures) is
     (not-false _ (c .before .before .before .if1 .left)) in
-    let rest = c .count-line in (
-      λ p sums.
-          two-formed (seededLine p) t
-          (rest .ensures .0 p (fitsIn (t .number)) (seeded (t .number)) (none-yet sums) (ap not (t .whole))
-          (seed-coded (t .number) (first .seed .given .0 .0) (t .held))),
-      line-looked (fields-reach true (t .fields)) (rest .result) (rest .last .1 .1 .1 .1 .1 .1 .1 .0) (rest .ensures .1),
-    )
+    let rest = c .count-line in
+    λ p sums.
+    two-formed (seededLine p) t
+    (rest .ensures p (fitsIn (t .number)) (seeded (t .number)) (none-yet sums) (ap not (t .whole))
+    (seed-coded (t .number) (first .seed .given .0 .0) (t .held)))
 
 pub seeded-line-spec : {M : Type 1} → statement M
 seeded-line-spec =

@@ -1,12 +1,9 @@
 -- `lines::line::slots_line` meets its contract: by what was read of the slots, and of the capacity after them. Assumes nothing.
-use mathlib.Core.Path.{ap}
 use mathlib.Core.Bool.{true, false}
 use borrow.Author.Needs.{needs}
 use borrow.Author.Tests.{not-true, not-false}
-use Rattle.text.specs.Fields.{shape}
-use Rattle.text.specs.FieldLaws.{fields-reach}
 use Rattle.lines.specs.Lines.{secondForm}
-use Rattle.lines.proofs.Wholes.{first-told, line-looked, wrong-looked, two-untold, two-ends, two-formed}
+use Rattle.lines.proofs.Wholes.{first-told, two-untold, two-ends, two-formed}
 use Rattle.lines.proofs.line.slots_line.Statement.{statement}
 use Rattle.lines.proofs.line.slots_line.Tie as tie
 
@@ -37,11 +34,9 @@ returns c =
     let start = number .before .before .before .before .before in
     let read = number .before .before .read-number in
     let is = number .slots .given .1 in
-    let t = first-told (start .args .text .now) (start .args .at) (start .pre .0) (read .result) (read .ensures .0) is
-    (not-true _ (c .before .if1 .taken)) in (
-      λ p n place workers. two-ends (start .args .text .now) (start .args .at) (start .pre .0) p (c .wrong3 .ensures) (secondForm p n) t,
-      wrong-looked (c .wrong3 .ensures) (rw (rw is at (read .ensures .1)) (fields-reach false (t .fields))),
-    )
+    let t = first-told (start .pre .0) (read .ensures) is
+    (not-true _ (c .before .if1 .taken)) in
+    λ p n place workers. two-ends (start .pre .0) p (secondForm p n) (c .wrong3 .ensures) t
 
 capacity-line-requires : tie.Need-capacity-line-requires
 capacity-line-requires c κs =
@@ -49,31 +44,23 @@ capacity-line-requires c κs =
     let start = number .before .before .before .before .before in
     let read = number .before .before .read-number in
     let is = number .slots .given .1 in
-    let t = first-told (start .args .text .now) (start .args .at) (start .pre .0) (read .result) (read .ensures .0) is
+    let t = first-told (start .pre .0) (read .ensures) is
     (not-false _ (c .before .if1 .left)) in
-    (t .fields .within, rw is at (read .ensures .1))
+    (t .fields .within, t .looked)
 
 returns-2 : tie.Need-returns-2
 returns-2 c =
     let start = c .before .before .before .before .before .before in
-    let read = c .before .before .before .read-number in
-    let is = c .before .enum-told .given .1 in (
-      λ p n place workers.
-          two-untold (start .args .text .now) (start .args .at) (start .pre .0) p (c .wrong .ensures) (secondForm p n) (read .result)
-          (read .ensures .0) (ap shape is),
-      wrong-looked (c .wrong .ensures) (rw is at (read .ensures .1)),
-    )
+    λ p n place workers.
+    two-untold (start .pre .0) p (secondForm p n) true (c .wrong .ensures) _ (c .before .before .before .read-number .ensures)
+    (c .before .enum-told .given .1)
 
 returns-3 : tie.Need-returns-3
 returns-3 c =
     let start = c .before .before .before .before .before .before in
-    let read = c .before .before .before .read-number in
-    let is = c .before .enum-told2 .given .1 in (
-      λ p n place workers.
-          two-untold (start .args .text .now) (start .args .at) (start .pre .0) p (c .wrong2 .ensures) (secondForm p n) (read .result)
-          (read .ensures .0) (ap shape is),
-      wrong-looked (c .wrong2 .ensures) (rw is at (read .ensures .1)),
-    )
+    λ p n place workers.
+    two-untold (start .pre .0) p (secondForm p n) false (c .wrong2 .ensures) _ (c .before .before .before .read-number .ensures)
+    (c .before .enum-told2 .given .1)
 
 returns-4 : tie.Need-returns-4
 returns-4 c =
@@ -81,12 +68,10 @@ returns-4 c =
     let start = number .before .before .before .before .before in
     let read = number .before .before .read-number in
     let is = number .slots .given .1 in
-    let t = first-told (start .args .text .now) (start .args .at) (start .pre .0) (read .result) (read .ensures .0) is
+    let t = first-told (start .pre .0) (read .ensures) is
     (not-false _ (c .before .before .if1 .left)) in
-    let rest = c .capacity-line in (
-      λ p n place workers. two-formed (secondForm p n) t (rest .ensures .0 p n (t .number) place workers (t .held)),
-      line-looked (fields-reach true (t .fields)) (rest .result) (rest .last .1 .1 .1 .1 .1 .0) (rest .ensures .1),
-    )
+    let rest = c .capacity-line in
+    λ p n place workers. two-formed (secondForm p n) t (rest .ensures p n (t .number) place workers (t .held))
 
 pub slots-line-spec : {M : Type 1} → statement M
 slots-line-spec =

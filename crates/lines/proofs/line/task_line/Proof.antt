@@ -1,13 +1,9 @@
 -- `lines::line::task_line` meets its contract: by what was read of its label and its cost. Assumes nothing.
-use mathlib.Core.Path.{refl, ap}
+use mathlib.Core.Path.{refl}
 use mathlib.Core.Bool.{true, false}
 use borrow.Author.Needs.{needs}
 use borrow.Author.Tests.{not-true, not-false}
-use Rattle.text.specs.LineEnds.{reaches-on}
-use Rattle.text.specs.Fields.{shape}
-use Rattle.text.specs.FieldLaws.{fields-reach}
-use Rattle.plan.specs.PassFields.{labelShape}
-use Rattle.lines.proofs.Wholes.{number-told, wrong-looked}
+use Rattle.lines.proofs.Wholes.{number-told}
 use Rattle.lines.proofs.Heads.{label-told, head-unlabelled, head-ends, head-costless, head-begun}
 use Rattle.lines.proofs.line.task_line.Statement.{statement}
 use Rattle.lines.proofs.line.task_line.Tie as tie
@@ -39,11 +35,9 @@ returns c =
     let start = label .before .before .before .before .before .before in
     let read = label .before .before .read-label in
     let is = label .len .given .1 in
-    let t = label-told (start .args .text .now) (start .args .at) (start .pre .0) (read .result) (read .ensures .0) is
-    (not-true _ (c .before .if1 .taken)) in (
-      λ p sums. head-ends (start .args .text .now) (start .args .at) (start .pre .0) (c .wrong3 .ensures) t,
-      wrong-looked (c .wrong3 .ensures) (rw (rw is at (read .ensures .1)) (fields-reach false (t .fields))),
-    )
+    let t = label-told (start .pre .0) (read .ensures) is
+    (not-true _ (c .before .if1 .taken)) in
+    λ p sums. head-ends (start .pre .0) (c .wrong3 .ensures) t
 
 read-number-requires : tie.Need-read-number-requires
 read-number-requires c κs =
@@ -51,9 +45,9 @@ read-number-requires c κs =
     let start = label .before .before .before .before .before .before in
     let read = label .before .before .read-label in
     let is = label .len .given .1 in
-    let t = label-told (start .args .text .now) (start .args .at) (start .pre .0) (read .result) (read .ensures .0) is
+    let t = label-told (start .pre .0) (read .ensures) is
     (not-false _ (c .before .if1 .left)) in
-    (t .fields .within, rw is at (read .ensures .1))
+    (t .fields .within, t .looked)
 
 enum-told-3 : tie.Need-enum-told-3
 enum-told-3 c = search needs
@@ -82,54 +76,34 @@ first-fault-requires c κs = search needs
 returns-2 : tie.Need-returns-2
 returns-2 c =
     let start = c .before .before .before .before .before .before .before in
-    let read = c .before .before .before .read-label in
-    let is = c .before .enum-told .given .1 in (
-      λ p sums.
-          head-unlabelled (start .args .text .now) (start .args .at) (start .pre .0) (c .wrong .ensures) (read .result)
-          (read .ensures .0) (ap labelShape is),
-      wrong-looked (c .wrong .ensures) (rw is at (read .ensures .1)),
-    )
+    λ p sums.
+    head-unlabelled (start .pre .0) true (c .wrong .ensures) (c .before .before .before .read-label .ensures) (c .before .enum-told .given .1)
 
 returns-3 : tie.Need-returns-3
 returns-3 c =
     let start = c .before .before .before .before .before .before .before in
-    let read = c .before .before .before .read-label in
-    let is = c .before .enum-told2 .given .1 in (
-      λ p sums.
-          head-unlabelled (start .args .text .now) (start .args .at) (start .pre .0) (c .wrong2 .ensures) (read .result)
-          (read .ensures .0) (ap labelShape is),
-      wrong-looked (c .wrong2 .ensures) (rw is at (read .ensures .1)),
-    )
+    λ p sums.
+    head-unlabelled (start .pre .0) false (c .wrong2 .ensures) (c .before .before .before .read-label .ensures) (c .before .enum-told2 .given .1)
 
 returns-4 : tie.Need-returns-4
 returns-4 c =
     let label = c .before .before .before .before .before .before .before in
     let start = label .before .before .before .before .before .before in
     let read = label .before .before .read-label in
-    let t = label-told (start .args .text .now) (start .args .at) (start .pre .0) (read .result) (read .ensures .0) (label .len .given .1)
+    let t = label-told (start .pre .0) (read .ensures) (label .len .given .1)
     (not-false _ (c .before .before .before .before .before .if1 .left)) in
-    let number = c .before .before .before .read-number in
-    let is = c .before .enum-told3 .given .1 in (
-      λ p sums.
-          head-costless (start .args .text .now) (start .args .at) (start .pre .0) (c .wrong4 .ensures) t (number .result)
-          (number .ensures .0) (ap shape is),
-      wrong-looked (c .wrong4 .ensures) (reaches-on (fields-reach true (t .fields)) (rw is at (number .ensures .1))),
-    )
+    λ p sums.
+    head-costless (start .pre .0) true (c .wrong4 .ensures) t (c .before .before .before .read-number .ensures) (c .before .enum-told3 .given .1)
 
 returns-5 : tie.Need-returns-5
 returns-5 c =
     let label = c .before .before .before .before .before .before .before in
     let start = label .before .before .before .before .before .before in
     let read = label .before .before .read-label in
-    let t = label-told (start .args .text .now) (start .args .at) (start .pre .0) (read .result) (read .ensures .0) (label .len .given .1)
+    let t = label-told (start .pre .0) (read .ensures) (label .len .given .1)
     (not-false _ (c .before .before .before .before .before .if1 .left)) in
-    let number = c .before .before .before .read-number in
-    let is = c .before .enum-told4 .given .1 in (
-      λ p sums.
-          head-costless (start .args .text .now) (start .args .at) (start .pre .0) (c .wrong5 .ensures) t (number .result)
-          (number .ensures .0) (ap shape is),
-      wrong-looked (c .wrong5 .ensures) (reaches-on (fields-reach true (t .fields)) (rw is at (number .ensures .1))),
-    )
+    λ p sums.
+    head-costless (start .pre .0) false (c .wrong5 .ensures) t (c .before .before .before .read-number .ensures) (c .before .enum-told4 .given .1)
 
 same-length : tie.Need-same-length
 same-length c = search needs
@@ -140,17 +114,15 @@ returns-6 c =
     let label = cost .before .before .before .before .before .before in
     let start = label .before .before .before .before .before .before in
     let read = label .before .before .read-label in
-    let t = label-told (start .args .text .now) (start .args .at) (start .pre .0) (read .result) (read .ensures .0) (label .len .given .1)
+    let t = label-told (start .pre .0) (read .ensures) (label .len .given .1)
     (not-false _ (cost .before .before .before .before .if1 .left)) in
     let number = cost .before .before .read-number in
-    let u = number-told (t .fields) (number .result) (number .ensures .0) (cost .cost .given .1) refl in
+    let u = number-told (t .fields) (number .ensures) (cost .cost .given .1) refl in
     let row = c .before .before .before .before .before .before .begin-row in
-    let misplaced = c .before .either in (
-      λ p sums.
-          head-begun (start .args .sofar) p sums t u (row .last .0) (row .ensures) (misplaced .result) (misplaced .ensures)
-          (c .first-fault .result) (c .first-fault .ensures),
-      rw (cost .cost .given .1) at (number .ensures .1),
-    )
+    let misplaced = c .before .either in
+    λ p sums.
+    head-begun (start .args .sofar) p sums t u (row .last .0) (row .ensures) (misplaced .result) (misplaced .ensures)
+    (c .first-fault .result) (c .first-fault .ensures)
 
 pub task-line-spec : {M : Type 1} → statement M
 task-line-spec =

@@ -1,12 +1,10 @@
 -- `lines::line::workers_line` meets its contract: by what was read of the workers, and of the sizes after them. Assumes nothing.
 use mathlib.Core.Path.{refl, ap}
-use mathlib.Core.Bool.{true, not}
+use mathlib.Core.Bool.{true, false, not}
 use borrow.Author.Needs.{needs}
-use Rattle.text.specs.Fields.{shape}
-use Rattle.text.specs.FieldLaws.{fields-reach}
 use Rattle.plan.specs.declared.form.Form.the-variants.{First}
 use Rattle.plan.specs.Line.{workersLine}
-use Rattle.lines.proofs.Wholes.{first-told, line-looked, wrong-looked, in-form-untold, first-formed, second-formed}
+use Rattle.lines.proofs.Wholes.{first-told, in-form-untold, first-formed, second-formed}
 use Rattle.lines.proofs.Wholes.{workers-judged, none-yet}
 use Rattle.lines.proofs.line.workers_line.Statement.{statement}
 use Rattle.lines.proofs.line.workers_line.Tie as tie
@@ -35,9 +33,9 @@ slots-line-requires c κs =
     let start = number .before .before .before .before .before in
     let read = number .before .before .read-number in
     let is = number .workers .given .1 in
-    let t = first-told (start .args .text .now) (start .args .at) (start .pre .0) (read .result) (read .ensures .0) is
+    let t = first-told (start .pre .0) (read .ensures) is
     (c .before .if1 .taken) in
-    (t .fields .within, rw is at (read .ensures .1))
+    (t .fields .within, t .looked)
 
 returns : tie.Need-returns
 returns c =
@@ -45,12 +43,10 @@ returns c =
     let start = number .before .before .before .before .before in
     let read = number .before .before .read-number in
     let is = number .workers .given .1 in
-    let t = first-told (start .args .text .now) (start .args .at) (start .pre .0) (read .result) (read .ensures .0) is
+    let t = first-told (start .pre .0) (read .ensures) is
     (c .before .before .if1 .taken) in
-    let rest = c .slots-line in (
-      λ p sums. second-formed (workersLine p) t (rest .ensures .0 p (t .number) (ap not (none-yet sums)) (t .held)),
-      line-looked (fields-reach true (t .fields)) (rest .result) (rest .last .1 .1 .1 .1 .0) (rest .ensures .1),
-    )
+    let rest = c .slots-line in
+    λ p sums. second-formed (workersLine p) t (rest .ensures p (t .number) (ap not (none-yet sums)) (t .held))
 
 form-line-requires : tie.Need-form-line-requires
 form-line-requires c κs = search needs
@@ -58,24 +54,16 @@ form-line-requires c κs = search needs
 returns-2 : tie.Need-returns-2
 returns-2 c =
     let start = c .before .before .before .before .before .before in
-    let read = c .before .before .before .read-number in
-    let is = c .before .enum-told .given .1 in (
-      λ p sums.
-          in-form-untold (start .args .text .now) (start .args .at) (start .pre .0) p (c .wrong .ensures) (workersLine p) (read .result)
-          (read .ensures .0) (ap shape is),
-      wrong-looked (c .wrong .ensures) (rw is at (read .ensures .1)),
-    )
+    λ p sums.
+    in-form-untold (start .pre .0) p (workersLine p) true (c .wrong .ensures) _ (c .before .before .before .read-number .ensures)
+    (c .before .enum-told .given .1)
 
 returns-3 : tie.Need-returns-3
 returns-3 c =
     let start = c .before .before .before .before .before .before in
-    let read = c .before .before .before .read-number in
-    let is = c .before .enum-told2 .given .1 in (
-      λ p sums.
-          in-form-untold (start .args .text .now) (start .args .at) (start .pre .0) p (c .wrong2 .ensures) (workersLine p) (read .result)
-          (read .ensures .0) (ap shape is),
-      wrong-looked (c .wrong2 .ensures) (rw is at (read .ensures .1)),
-    )
+    λ p sums.
+    in-form-untold (start .pre .0) p (workersLine p) false (c .wrong2 .ensures) _ (c .before .before .before .read-number .ensures)
+    (c .before .enum-told2 .given .1)
 
 returns-4 : tie.Need-returns-4
 returns-4 c =
@@ -83,15 +71,12 @@ returns-4 c =
     let start = number .before .before .before .before .before in
     let read = number .before .before .read-number in
     let is = number .workers .given .1 in
-    let t = first-told (start .args .text .now) (start .args .at) (start .pre .0) (read .result) (read .ensures .0) is
+    let t = first-told (start .pre .0) (read .ensures) is
     (c .before .if1 .left) in
-    let ended = c .form-line .ensures .1 in (
-      λ p sums.
-          first-formed (workersLine p) t
-          (workers-judged p (t .number) First (number .workers .given .0 .1 .1 .0) (t .held) refl
-          (c .form-line .ensures .0 p (ap not (none-yet sums)))),
-      rw (ended .0, ended .1) (rw is at (read .ensures .1)),
-    )
+    λ p sums.
+    first-formed (workersLine p) t
+    (workers-judged p (t .number) First (number .workers .given .0 .1 .1 .0) (t .held) refl
+    (c .form-line .ensures p (ap not (none-yet sums))))
 
 pub workers-line-spec : {M : Type 1} → statement M
 workers-line-spec =

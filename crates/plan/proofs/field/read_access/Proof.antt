@@ -1,16 +1,13 @@
 -- `plan::field::read_access` meets its contract: by the first byte, the number after it being that of `read_number`. Assumes nothing.
 use Prim.Native.Nat.{_+_, _<_}
-use mathlib.Core.Path.{_≡_, sym, ap, _∙_}
+use mathlib.Core.Path.{_≡_, sym, _∙_}
 use mathlib.Core.Bool.{true, false}
-use mathlib.Core.Logic.{_≢_}
 use native.Mathlib.Omega.{arith}
 use borrow.Author.Needs.{needs}
 use lib.ListN.{length}
-use Rattle.text.specs.Text.{lineFeed}
-use Rattle.text.specs.LineEnds.{NONE, Reaches, reaches-feed, reaches-other, look-within}
+use Rattle.text.specs.LineEnds.{NONE, look-within}
 use Rattle.text.specs.FieldLaws.{byte-within}
-use Rattle.plan.specs.PassFields.{accessShape, addressed}
-use Rattle.plan.proofs.Fields.{access-letter, access-other, addressed-shape, addressed-looked}
+use Rattle.plan.proofs.Fields.{access-letter, access-ended, access-other}
 use Rattle.plan.proofs.field.read_access.Statement.{statement}
 use Rattle.plan.proofs.field.read_access.Tie as tie
 
@@ -18,23 +15,20 @@ look-requires : tie.Need-look-requires
 look-requires c κs = search needs
 
 -- after the letter
-after-letter : (c : tie.After-look) → c .look .result < NONE → c .look .result ≢ lineFeed
-    → let a = c .before .before .before .args in
-    (a .at < length (a .text .now)) × (c .look .last .1 .1 .0 ≡ a .at + 1) × Reaches (a .text .now) (a .at) true (a .at + 1)
-after-letter c h e =
-    let start = c .before .before .before in
-    let a = start .args in
+after-letter : (c : tie.After-look) → c .look .result < NONE
+    → let a = c .before .before .before .args in (a .at < length (a .text .now)) × (c .look .last .1 .1 .0 ≡ a .at + 1)
+after-letter c h =
+    let a = c .before .before .before .args in
     let seen = c .look .ensures in
     let here : a .at < length (a .text .now) = byte-within (a .text .now) (a .at) (rw (seen .0) at h) in
-    let next = look-within (a .text .now) (a .at) here in
-    (here, seen .1 ∙ next, rw next at (reaches-other (a .text .now) (a .at) (start .pre .0) (rw (seen .0) at e)))
+    (here, seen .1 ∙ look-within (a .text .now) (a .at) here)
 
 add-read-number : tie.Need-add-read-number
 add-read-number c = search needs
 
 read-number-requires : tie.Need-read-number-requires
 read-number-requires c κs =
-    let after = after-letter (c .before .before) (omega arith) (omega arith) in
+    let after = after-letter (c .before .before) (omega arith) in
     (omega (arith, after .0), after .1)
 
 with-address-requires : tie.Need-with-address-requires
@@ -43,21 +37,16 @@ with-address-requires c κs = search needs
 returns : tie.Need-returns
 returns c =
     let look = c .before .before .before .before in
-    let a = look .before .before .before .args in
-    let after = after-letter look (omega arith) (omega arith) in
-    let n = c .before .read-number in
-    let is : c .with-address .result ≡ addressed 0 (n .result) = c .with-address .ensures in
-    let letter = access-letter (a .text .now) (a .at) false (sym (look .look .ensures .0) ∙ c .before .before .before .if1 .taken) in (
-      ap accessShape is ∙ addressed-shape 0 (n .result) ∙ ap (addressed 0) (n .ensures .0) ∙ letter,
-      rw is (addressed-looked (after .2) 0 (n .result) (n .last .1 .1 .0) (n .ensures .1)),
-    )
+    let start = look .before .before .before in
+    access-letter (start .args .text .now) (start .args .at) (start .pre .0) false
+    (sym (look .look .ensures .0) ∙ c .before .before .before .if1 .taken) (c .before .read-number .ensures) (c .with-address .ensures)
 
 add-read-number-2 : tie.Need-add-read-number-2
 add-read-number-2 c = search needs
 
 read-number-requires-2 : tie.Need-read-number-requires-2
 read-number-requires-2 c κs =
-    let after = after-letter (c .before .before .before) (omega arith) (omega arith) in
+    let after = after-letter (c .before .before .before) (omega arith) in
     (omega (arith, after .0), after .1)
 
 with-address-requires-2 : tie.Need-with-address-requires-2
@@ -66,32 +55,24 @@ with-address-requires-2 c κs = search needs
 returns-2 : tie.Need-returns-2
 returns-2 c =
     let look = c .before .before .before .before .before in
-    let a = look .before .before .before .args in
-    let after = after-letter look (omega arith) (omega arith) in
-    let n = c .before .read-number2 in
-    let is : c .with-address2 .result ≡ addressed 1 (n .result) = c .with-address2 .ensures in
-    let letter = access-letter (a .text .now) (a .at) true (sym (look .look .ensures .0) ∙ c .before .before .before .if2 .taken) in (
-      ap accessShape is ∙ addressed-shape 1 (n .result) ∙ ap (addressed 1) (n .ensures .0) ∙ letter,
-      rw is (addressed-looked (after .2) 1 (n .result) (n .last .1 .1 .0) (n .ensures .1)),
-    )
+    let start = look .before .before .before in
+    access-letter (start .args .text .now) (start .args .at) (start .pre .0) true
+    (sym (look .look .ensures .0) ∙ c .before .before .before .if2 .taken) (c .before .read-number2 .ensures) (c .with-address2 .ensures)
 
 returns-3 : tie.Need-returns-3
 returns-3 c =
     let start = c .before .before .before .before .before .before in
     let a = start .args in
-    let seen = c .before .before .before .look .ensures in (
-      access-other (a .text .now) (a .at) (rw (seen .0) at (c .before .before .if1 .left)) (rw (seen .0) at (c .before .if2 .left)),
-      rw (seen .1) (reaches-feed (a .text .now) (a .at) (start .pre .0) (sym (seen .0) ∙ c .if3 .taken)),
-    )
+    let seen = c .before .before .before .look .ensures in
+    rw (seen .1) (access-ended (a .text .now) (a .at) (start .pre .0) (sym (seen .0) ∙ c .if3 .taken))
 
 returns-4 : tie.Need-returns-4
 returns-4 c =
     let start = c .before .before .before .before .before .before in
     let a = start .args in
-    let seen = c .before .before .before .look .ensures in (
-      access-other (a .text .now) (a .at) (rw (seen .0) at (c .before .before .if1 .left)) (rw (seen .0) at (c .before .if2 .left)),
-      rw (seen .1) (reaches-other (a .text .now) (a .at) (start .pre .0) (rw (seen .0) at (c .if3 .left))),
-    )
+    let seen = c .before .before .before .look .ensures in
+    rw (seen .1) (access-other (a .text .now) (a .at) (start .pre .0) (rw (seen .0) at (c .before .before .if1 .left))
+    (rw (seen .0) at (c .before .if2 .left)) (rw (seen .0) at (c .if3 .left)))
 
 pub read-access-spec : {M : Type 1} → statement M
 read-access-spec =

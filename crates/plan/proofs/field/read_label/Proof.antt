@@ -1,23 +1,22 @@
--- `plan::field::read_label` meets its contract: after the bytes so far, each looked at once, the field at the place comes to what the whole
--- field does. The measure is what is left of the text. Assumes nothing.
-use Prim.Native.Nat.{_+_, _-_, _<_}
-use mathlib.Core.Path.{_≡_, sym, ap, _∙_}
+-- `plan::field::read_label` meets its contract: what is answered for the field after the bytes so far is the answer for the whole field. The measure is what is left of the text. Assumes nothing.
+use Prim.Native.Nat.{ℕ, _+_, _-_, _≤_, _<_}
+use mathlib.Core.Path.{_≡_, sym, _∙_}
 use mathlib.Core.Bool.{true}
 use native.Mathlib.Omega.{arith}
 use borrow.Author.Needs.{needs}
 use borrow.Author.Tests.{not-true, not-false}
-use lib.ListN.{length, drop, getD}
-use Rattle.text.specs.LineEnds.{NONE, Reaches, reaches-none, reaches-on, reaches-other, look-within}
-use Rattle.text.specs.Fields.{fieldOf}
+use lib.ListN.{length, getD}
+use Rattle.text.specs.LineEnds.{NONE, look-within}
+use Rattle.plan.specs.declared.field.Label.{Label}
 use Rattle.plan.specs.Line.{isLabelByte}
-use Rattle.plan.specs.PassFields.{asLabel, labelShape}
-use Rattle.plan.proofs.Fields.{lateLabel, label-whole, label-end, label-looked, label-within, label-no-feed, label-on}
+use Rattle.plan.specs.PassFields.{ReadLabel}
+use Rattle.plan.proofs.Fields.{LateLabel, label-whole, label-end, label-within, label-on}
 use Rattle.plan.proofs.field.read_label.Statement.{statement}
 use Rattle.plan.proofs.field.read_label.Tie as tie
 
 abbrev Inv-loop : tie.InvT-loop
 Inv-loop text from looks₀ at₀ looks at =
-    (looks ≡ at) × Reaches text from true at × (lateLabel (at - from) at (fieldOf (drop at text)) ≡ asLabel from (fieldOf (drop from text)))
+    (looks ≡ at) × (from ≤ at) × (at ≤ length text) × ((r : Label) (n : ℕ) → LateLabel (at - from) text at r n → ReadLabel text from r n)
 
 abbrev μ-loop : tie.MeasureT-loop
 μ-loop text from looks₀ at₀ looks at = length text - at
@@ -26,9 +25,8 @@ loop-holds : tie.Need-loop-holds Inv-loop μ-loop
 loop-holds c =
     let start = c .before in
     let from = start .args .from in
-    let text = start .args .text .now in
     let z : from - from ≡ 0 = omega arith in
-    (start .pre .1, reaches-none text from (start .pre .0), rw z (label-whole from (fieldOf (drop from text))))
+    (start .pre .1, omega arith, start .pre .0, λ r n so. label-whole (start .args .text .now) from (rw z at so))
 
 look-requires : tie.Need-look-requires Inv-loop μ-loop
 look-requires c κs = search needs
@@ -37,10 +35,10 @@ is-label-byte-requires : tie.Need-is-label-byte-requires Inv-loop μ-loop
 is-label-byte-requires c κs = search needs
 
 sub-end-label : tie.Need-sub-end-label Inv-loop μ-loop
-sub-end-label c = c .before .before .before .before .loop .inv .1 .on
+sub-end-label c = c .before .before .before .before .loop .inv .1
 
 add-end-label : tie.Need-add-end-label Inv-loop μ-loop
-add-end-label c = omega (arith, c .before .before .before .before .loop .inv .1 .within)
+add-end-label c = omega (arith, c .before .before .before .before .loop .inv .2)
 
 end-label-requires : tie.Need-end-label-requires Inv-loop μ-loop
 end-label-requires c κs = search needs
@@ -51,10 +49,8 @@ returns c =
     let start = c .before .before .before .before .before .before .before .args in
     let seen = c .before .before .before .look .ensures in
     let other = sym (c .before .before .is-label-byte .ensures) ∙ not-true _ (c .before .if1 .taken) in
-    let is = rw (seen .0) at (c .end-label .ensures) in (
-      ap labelShape is ∙ label-end (l .at - start .from) (start .text .now) (l .at) (rw (seen .0) at other) ∙ l .inv .2,
-      rw (is, seen .1) (label-looked (l .inv .1) (l .at - start .from)),
-    )
+    rw (seen .1) (l .inv .3 _ _
+    (label-end (l .at - start .from) (start .text .now) (l .at) (l .inv .2) (rw (seen .0) at other) (rw (seen .0) at (c .end-label .ensures))))
 
 -- the byte is a label's
 label-byte : (c : tie.Else1 Inv-loop μ-loop)
@@ -78,12 +74,12 @@ loop-again c =
     let l = c .before .before .before .before .loop in
     let start = c .before .before .before .before .before .before .args in
     let text = start .text .now in
-    let seen = c .before .before .look .ensures in
-    let next = look-within text (l .at) (in-text c) in
-    let q : l .at + 1 - start .from ≡ l .at - start .from + 1 = omega (arith, l .inv .1 .on) in (
-      seen .1 ∙ next,
-      rw next at (reaches-on (l .inv .1) (reaches-other text (l .at) (l .inv .1 .within) (label-no-feed (getD text (l .at) NONE) (label-byte c)))),
-      rw q (label-on (l .at - start .from) text (l .at) (label-byte c)) ∙ l .inv .2,
+    let here = in-text c in
+    let q : l .at + 1 - start .from ≡ l .at - start .from + 1 = omega (arith, l .inv .1) in (
+      c .before .before .look .ensures .1 ∙ look-within text (l .at) here,
+      omega (arith, l .inv .1),
+      omega (arith, here),
+      λ r n so. l .inv .3 r n (label-on (l .at - start .from) text (l .at) (l .inv .2) (label-byte c) (rw q at so)),
     )
 
 pub read-label-spec : {M : Type 1} → statement M

@@ -4,9 +4,9 @@ use Prim.Native.Nat.{_+_, _<_}
 use mathlib.Core.Path.{_≡_, sym, _∙_}
 use native.Mathlib.Omega.{arith}
 use lib.ListN.{length}
-use Rattle.text.specs.LineEnds.{reaches-feed, reaches-other, look-within}
+use Rattle.text.specs.LineEnds.{look-within}
 use Rattle.text.specs.FieldLaws.{byte-within}
-use Rattle.text.proofs.Reading.{number-low, number-high, number-digit, looked-after}
+use Rattle.text.proofs.Reading.{number-ended, number-low, number-high, number-digit}
 use Rattle.text.proofs.read.read_number.Statement.{statement}
 use Rattle.text.proofs.read.read_number.Tie as tie
 
@@ -17,28 +17,22 @@ returns : tie.Need-returns
 returns c =
     let start = c .before .before .before .before .before in
     let a = start .args in
-    let seen = c .before .before .look .ensures in (
-      number-low (a .text .now) (a .at) (omega (arith, seen .0)),
-      rw (seen .1) (reaches-feed (a .text .now) (a .at) (start .pre .0) (sym (seen .0) ∙ c .if2 .taken)),
-    )
+    let seen = c .before .before .look .ensures in
+    rw (seen .1) (number-ended (a .text .now) (a .at) (start .pre .0) (sym (seen .0) ∙ c .if2 .taken))
 
 returns-2 : tie.Need-returns-2
 returns-2 c =
     let start = c .before .before .before .before .before in
     let a = start .args in
-    let seen = c .before .before .look .ensures in (
-      number-low (a .text .now) (a .at) (omega (arith, seen .0)),
-      rw (seen .1) (reaches-other (a .text .now) (a .at) (start .pre .0) (omega (arith, seen .0))),
-    )
+    let seen = c .before .before .look .ensures in
+    rw (seen .1) (number-low (a .text .now) (a .at) (start .pre .0) (omega (arith, seen .0)) (omega (arith, seen .0)))
 
 returns-3 : tie.Need-returns-3
 returns-3 c =
     let start = c .before .before .before .before .before in
     let a = start .args in
-    let seen = c .before .before .look .ensures in (
-      number-high (a .text .now) (a .at) (omega (arith, seen .0)),
-      rw (seen .1) (reaches-other (a .text .now) (a .at) (start .pre .0) (omega (arith, seen .0))),
-    )
+    let seen = c .before .before .look .ensures in
+    rw (seen .1) (number-high (a .text .now) (a .at) (start .pre .0) (omega (arith, seen .0)))
 
 -- the place after the first digit
 after-first : (c : tie.Else3) → let a = c .before .before .before .before .before .args in
@@ -60,12 +54,8 @@ returns-4 c =
     let start = c .before .before .before .before .before .before .before in
     let a = start .args in
     let seen = c .before .before .before .before .look .ensures in
-    let rest = c .more-digits in
-    let first = after-first (c .before .before) in
-    let on = rw (sym (seen .1) ∙ first .1) at (reaches-other (a .text .now) (a .at) (start .pre .0) (omega (arith, seen .0))) in (
-      rw (seen .0) at (rest .ensures .0) ∙ number-digit (a .text .now) (a .at) (omega (arith, seen .0)) (omega (arith, seen .0)),
-      looked-after on (rest .result) (rest .last .1 .1 .1 .0) (rest .ensures .1),
-    )
+    number-digit (a .text .now) (a .at) (start .pre .0) (omega (arith, seen .0)) (omega (arith, seen .0))
+    (rw (seen .0) at (c .more-digits .ensures))
 
 pub read-number-spec : {M : Type 1} → statement M
 read-number-spec =
