@@ -47,32 +47,35 @@ module _ (text : List ℕ) (at : ℕ) where
 
 -- ---- what a reader answers for that field, by the byte there
 
+-- the byte ends an empty field
+module _ (text : List ℕ) (at : ℕ) where
+  empty-field : (more : Bool) → getD text at NONE ≡ cond more tab lineFeed → fieldOf (drop at text) ≡ cut [] more (drop (at + 1) text)
+  empty-field true e = field-tab text at e
+  empty-field false e = field-line-feed text at e
+
+  empty-within : (more : Bool) → getD text at NONE ≡ cond more tab lineFeed → at < length text
+  empty-within true e = byte-within text at (omega arith)
+  empty-within false e = byte-within text at (omega arith)
+
+  empty-reach : at ≤ length text → (more : Bool) → getD text at NONE ≡ cond more tab lineFeed → Reaches text at more (afterLook text at)
+  empty-reach in-text true e = reaches-other text at in-text (omega arith)
+  empty-reach in-text false e = reaches-feed text at in-text e
+
 module _ {A B : Type 0} (good : B → ℕ → Bool → A) (bad : Bool → A) (says : List ℕ → Option B) (text : List ℕ) (at : ℕ)
     (in-text : at ≤ length text) where
   abbrev Here : A → Type 0
   Here r = Answers good bad says text at r (afterLook text at)
 
-  -- the field is empty, and the byte ends it
   module _ (more : Bool) (ends : getD text at NONE ≡ cond more tab lineFeed) where
-    empty-field : (m : Bool) → getD text at NONE ≡ cond m tab lineFeed → fieldOf (drop at text) ≡ cut [] m (drop (at + 1) text)
-    empty-field true e = field-tab text at e
-    empty-field false e = field-line-feed text at e
-
-    end-byte : (m : Bool) → getD text at NONE ≡ cond m tab lineFeed → getD text at NONE < NONE
-    end-byte true e = omega arith
-    end-byte false e = omega arith
-
+    -- the empty field says something
     pub answers-end : (b : B) → says [] ≡ some b → {r : A} → r ≡ good b (at + 1) more → Here r
     answers-end b s is =
-        let n = look-within text at (byte-within text at (end-byte more ends)) in
-        said [] b more (drop (at + 1) text) (empty-field more ends) s n (rw n is)
+        let n = look-within text at (empty-within text at more ends) in
+        said [] b more (drop (at + 1) text) (empty-field text at more ends) s n (rw n is)
 
+    -- or nothing
     pub answers-empty : says [] ≡ none → {r : A} → r ≡ bad more → Here r
-    answers-empty s is = unsaid more (rw (empty-field more ends) s) (reach more ends) is
-      where
-        reach : (m : Bool) → getD text at NONE ≡ cond m tab lineFeed → Reaches text at m (afterLook text at)
-        reach true e = reaches-other text at in-text (omega arith)
-        reach false e = reaches-feed text at in-text e
+    answers-empty s is = unsaid more (rw (empty-field text at more ends) s) (empty-reach text at in-text more ends) is
 
   module _ (t : getD text at NONE ≢ tab) (l : getD text at NONE ≢ lineFeed) where
     -- the byte is one of the field: it is answered by the rest of it
