@@ -1,10 +1,10 @@
 -- The code's view of one line: what is answered for its fields.
 use Prim.Native.Nat.{ℕ, _+_, _*_, _≤_}
-use mathlib.Core.Path.{_≡_, refl}
+use mathlib.Core.Path.{_≡_, refl, sym}
 use mathlib.Core.Bool.{Bool, true, false, not, _&&_, _||_}
 use mathlib.Core.List.{List, [], _∷_}
 use mathlib.Core.Option.{Option, none, some}
-use lib.ListN.{length, drop}
+use lib.ListN.{length, drop, replicate, length-replicate}
 use lib.Dec.{leb}
 use Rattle.refusals.specs.declared.Refusal.{Refusal}
 use Rattle.refusals.specs.declared.Refusal.the-variants.{Malformed, OutOfRange, Misplaced}
@@ -13,7 +13,7 @@ use Rattle.text.specs.LineEnds.{Reaches}
 use Rattle.text.specs.Fields.{First, unended, first, firstLine, Fields, clipped}
 use Rattle.plan.specs.declared.form.Form.{Form}
 use Rattle.plan.specs.declared.form.Form.the-variants.{Second}
-use Rattle.plan.specs.Plan.{Task, Order, Plan, withWorkers, withOrder}
+use Rattle.plan.specs.Plan.{Task, Order, rounds, Plan, withWorkers, withOrder}
 use Rattle.plan.specs.Line as plans
 use Rattle.plan.specs.Line.{'T', ask, atStart, hasOrders, isLabel, labelAndCost, workersLine, orderLine, taskLine, lineOfFields}
 use Rattle.plan.specs.Reading.{firstRefusal}
@@ -33,6 +33,18 @@ pub record Sums (s : Sofar) (p : Plan) : Type 0 where
   pub form : s .form ≡ p .form
   pub tasks : s .tasks ≡ length (p .tasks)
   pub orders : s .orders ≡ length (p .orders)
+
+-- there is one: what is said of every such plan is never said of none
+pub some-plan : (s : Sofar) → (p : Plan) × Sums s p
+some-plan s = (
+  record {
+    workers = s .workers;
+    form = s .form;
+    tasks = replicate (s .tasks) (record { label = []; cost = 0; accesses = [] });
+    orders = replicate (s .orders) (rounds 1);
+  },
+  record { workers = refl; form = refl; tasks = sym (length-replicate (s .tasks) _); orders = sym (length-replicate (s .orders) _) },
+)
 
 -- ---- faults
 
@@ -94,8 +106,7 @@ pub record Formed (text : List ℕ) (at : ℕ) (p : Plan) (form : List (List ℕ
   pub judged : r .fault ≡ faultIn l
   pub makes : firstRefusal (l .asks) ≡ none → Makes (r .kind) (r .first) (r .second) p (l .plan)
 
--- the answer for fields that begin at a place, and are the line that `form` says; each of their bytes that was needed was looked at once, n
--- bytes of the text so far
+-- the answer, after n looks at the text, for fields that begin at a place and are the line that `form` says
 pub data Whole (text : List ℕ) (at : ℕ) (p : Plan) (form : List (List ℕ) → Option plans.Line) (r : Line) (n : ℕ) : Type 0 where
   malformed : (more : Bool) → r ≡ wrongLine more → Formless form (firstLine (drop at text)) → Reaches text at more n
       → Whole text at p form r n

@@ -81,7 +81,8 @@ late-never n b other x = ways (within 1 16 (n + suc (length x))) (λ e. simp (e,
 -- a label's byte stands in the text
 pub label-within : (text : List ℕ) (at : ℕ) → isLabelByte (getD text at NONE) ≡ true → at < length text
 label-within text at is =
-    ⊎-elim (λ (w : at < length text). w) (λ (w : length text ≤ at). (let no : true ≡ false = sym (rw (List·getD-eq-default text NONE w) at is) in clash (cc)))
+    ⊎-elim (λ (w : at < length text). w)
+    (λ (w : length text ≤ at). (let no : true ≡ false = sym (rw (List·getD-eq-default text NONE w) at is) in clash (cc)))
     (order at (length text))
 
 label-no-tab : (b : ℕ) → isLabelByte b ≡ true → b ≢ tab

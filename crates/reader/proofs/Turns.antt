@@ -233,8 +233,8 @@ module _ {text : List ℕ} {begin : ℕ} {p : Plan} {line : Line} {at : ℕ} {a 
         → Fields text begin (('T' ∷ []) ∷ t .label ∷ t .digits ∷ (t .fs ++ x ∷ [])) (at + (length x + 1)) more
     more-fields = fields-more (t .fields)
 
-    pub access-read : {r : fields.Access} {n : ℕ} → ReadAccess text at r n → {writes address next : ℕ} {more : Bool} {b : Accesses} {after : List ℕ}
-        → r ≡ accesses.Is writes address next more
+    pub access-read : {r : fields.Access} {n : ℕ} → ReadAccess text at r n
+        → {writes address next : ℕ} {more : Bool} {b : Accesses} {after : List ℕ} → r ≡ accesses.Is writes address next more
         → ((u : Placed) (ys : List Access) (w : Bool) → writes ≡ bit w → Reads u ys a row → Reads u (ys ++ access w address ∷ []) b after)
         → InLine text begin p line next more b after
     access-read (unsaid m u reach i) is with-access = no-access m (sym is ∙ i)
@@ -507,8 +507,8 @@ module _ {text : List ℕ} {before : Lent} {s : Sofar} {n at : ℕ} {after : Len
   reads-as : comes (g .p) n text at ≡ reading text
   reads-as = g .so ∙ sym (reading-short text short)
 
-  pub gives-refused : (f : Refusal) → comes (g .p) n text at ≡ refused f n → {looks : ℕ} → looks ≡ lineEnd text at → {r : ReadPlan} → r ≡ noPlan f n looks
-      → Gives text before after r (reading text)
+  pub gives-refused : (f : Refusal) → comes (g .p) n text at ≡ refused f n → {looks : ℕ} → looks ≡ lineEnd text at
+      → {r : ReadPlan} → r ≡ noPlan f n looks → Gives text before after r (reading text)
   gives-refused f e seen {r} q =
       subst (Gives text before after r) (sym e ∙ reads-as)
       (rw (seen ∙ sym (g .ends)) at q, (rowsOf (g .rows .placed), g .rows .stores), (orderNumbers (g .p .orders), g .lines .stores))

@@ -119,7 +119,8 @@ one-line c =
     let l = c .before .before .before .before .before .before .before .before in
     let g = outer l .lines .inv .2 in
     let right = sym (l .before .before .is-wrong .ensures) ∙ l .before .if1 .left in
-    let hand = in-hand g (l .before .before .before .before .before .read-line .ensures) right (l .before .before .before .no-accesses .ensures) (l .loop .inv .3) in
+    let read = l .before .before .before .before .before .read-line in
+    let hand = in-hand g (read .ensures) right (l .before .before .before .no-accesses .ensures) (l .loop .inv .3) in
     line-kept g (c .keep .ensures) (found hand (c .before .before .before .before .before .before .before .loop-test .left))
     (sym (c .before .before .before .before .before .before .judge .ensures) ∙ c .before .before .before .before .enum-told4 .given .1)
 

@@ -66,15 +66,15 @@ returns-2 : tie.Need-returns-2
 returns-2 c =
     let start = c .before .before .before .before .before .before in
     λ p inRange order at-start before coded.
-    one-untold (start .pre .0) p (countLine p inRange (start .args .most) order) true (c .wrong .ensures) _ (c .before .before .before .read-number .ensures)
-    (c .before .enum-told .given .1)
+    one-untold (start .pre .0) p (countLine p inRange (start .args .most) order) true (c .wrong .ensures) _
+    (c .before .before .before .read-number .ensures) (c .before .enum-told .given .1)
 
 returns-3 : tie.Need-returns-3
 returns-3 c =
     let start = c .before .before .before .before .before .before in
     λ p inRange order at-start before coded.
-    one-untold (start .pre .0) p (countLine p inRange (start .args .most) order) false (c .wrong2 .ensures) _ (c .before .before .before .read-number .ensures)
-    (c .before .enum-told2 .given .1)
+    one-untold (start .pre .0) p (countLine p inRange (start .args .most) order) false (c .wrong2 .ensures) _
+    (c .before .before .before .read-number .ensures) (c .before .enum-told2 .given .1)
 
 returns-4 : tie.Need-returns-4
 returns-4 c =

@@ -1,12 +1,18 @@
 -- `lines::line::read_line` meets its contract: by its letter. Assumes nothing.
-use Prim.Native.Nat.{_+_, _≤_}
+use Prim.Native.Nat.{ℕ, _+_, _≤_}
 use mathlib.Core.Path.{_≡_, refl, sym, _∙_}
 use mathlib.Core.Bool.{true}
 use native.Mathlib.Omega.{arith}
+use mathlib.Core.List.{List}
+use mathlib.Core.Option.{Option}
 use borrow.Author.Needs.{needs}
 use lib.ListN.{length}
 use Rattle.text.specs.LineEnds.{Reaches, look-within, reaches-on, reaches-feed, reaches-other, reaches-look}
+use Rattle.plan.specs.Plan.{Plan}
+use Rattle.plan.specs.Line as plans
 use Rattle.plan.specs.Line.{'P', 'R', 'S', 'W', workersLine, picksLine, roundsLine, seededLine, oneNumber, twoNumbers, inForm, lineBy}
+use Rattle.lines.specs.declared.line.Line.{Line}
+use Rattle.lines.specs.Lines.{Whole, LineAt}
 use Rattle.lines.proofs.Letters.{fields-on, whole-line, task-line, no-tab, no-letter}
 use Rattle.lines.proofs.line.read_line.Statement.{statement}
 use Rattle.lines.proofs.line.read_line.Tie as tie
@@ -38,6 +44,17 @@ after-tab c =
       seen .1 ∙ next,
       rw next at (reaches-on (first .1) (reaches-other (a .text .now) (a .at + 1) (omega arith) (omega (arith, seen .0)))),
     )
+
+-- a line of numbers, by its letter
+by-letter : (c : tie.Else2) (letter : ℕ) → c .before .before .before .before .look .result ≡ letter → 65 ≤ letter → letter ≤ 90
+    → (form : List (List ℕ) → Option plans.Line) {p : Plan} {row : List ℕ} {r : Line} {n : ℕ}
+    → ((fs : List (List ℕ)) → lineBy p letter fs ≡ form fs)
+    → let a = c .before .before .before .before .before .before .before .before .args in
+    Whole (a .text .now) (a .at + 2) p form r n → LineAt (a .text .now) (a .at) p row r n
+by-letter c letter is low high =
+    let a = c .before .before .before .before .before .before .before .before .args in
+    whole-line (a .text .now) (a .at) letter (sym (c .before .before .before .before .look .ensures .0) ∙ is)
+    (omega (arith, c .before .look2 .ensures .0)) low high
 
 wrong-requires : tie.Need-wrong-requires
 wrong-requires c κs = search needs
@@ -120,13 +137,9 @@ wrong-requires-3 c κs = search needs
 returns-3 : tie.Need-returns-3
 unfolding lineBy
 returns-3 c =
-    let a = c .before .before .before .before .before .before .before .before .before .before .before .args in
-    let letter = c .before .before .before .before .before .before .before .look .ensures .0 in
-    let tab = c .before .before .before .before .look2 .ensures .0 in
-    let rest = c .workers-line in
     λ p sums.
-    whole-line (a .text .now) (a .at) 'W' (omega (arith, letter)) (omega (arith, tab)) (omega arith) (omega arith)
-    (inForm (workersLine p)) (λ fs. refl) (rest .ensures p sums)
+    by-letter (c .before .before .before) 'W' (omega arith) (omega arith) (omega arith) (inForm (workersLine p)) (λ fs. refl)
+    (c .workers-line .ensures p sums)
 
 same-length : tie.Need-same-length
 same-length c = search needs
@@ -142,35 +155,23 @@ returns-4 c =
 returns-5 : tie.Need-returns-5
 unfolding lineBy
 returns-5 c =
-    let a = c .before .before .before .before .before .before .before .before .before .before .before .args in
-    let letter = c .before .before .before .before .before .before .before .look .ensures .0 in
-    let tab = c .before .before .before .before .look2 .ensures .0 in
-    let rest = c .picks-line in
     λ p sums.
-    whole-line (a .text .now) (a .at) 'P' (omega (arith, letter)) (omega (arith, tab)) (omega arith) (omega arith)
-    (twoNumbers (picksLine p)) (λ fs. refl) (rest .ensures p sums)
+    by-letter (c .before .before .before) 'P' (omega arith) (omega arith) (omega arith) (twoNumbers (picksLine p)) (λ fs. refl)
+    (c .picks-line .ensures p sums)
 
 returns-6 : tie.Need-returns-6
 unfolding lineBy
 returns-6 c =
-    let a = c .before .before .before .before .before .before .before .before .before .before .before .args in
-    let letter = c .before .before .before .before .before .before .before .look .ensures .0 in
-    let tab = c .before .before .before .before .look2 .ensures .0 in
-    let rest = c .rounds-line in
     λ p sums.
-    whole-line (a .text .now) (a .at) 'R' (omega (arith, letter)) (omega (arith, tab)) (omega arith) (omega arith)
-    (oneNumber (roundsLine p)) (λ fs. refl) (rest .ensures p sums)
+    by-letter (c .before .before .before) 'R' (omega arith) (omega arith) (omega arith) (oneNumber (roundsLine p)) (λ fs. refl)
+    (c .rounds-line .ensures p sums)
 
 returns-7 : tie.Need-returns-7
 unfolding lineBy
 returns-7 c =
-    let a = c .before .before .before .before .before .before .before .before .before .before .before .args in
-    let letter = c .before .before .before .before .before .before .before .look .ensures .0 in
-    let tab = c .before .before .before .before .look2 .ensures .0 in
-    let rest = c .seeded-line in
     λ p sums.
-    whole-line (a .text .now) (a .at) 'S' (omega (arith, letter)) (omega (arith, tab)) (omega arith) (omega arith)
-    (twoNumbers (seededLine p)) (λ fs. refl) (rest .ensures p sums)
+    by-letter (c .before .before .before) 'S' (omega arith) (omega arith) (omega arith) (twoNumbers (seededLine p)) (λ fs. refl)
+    (c .seeded-line .ensures p sums)
 
 returns-8 : tie.Need-returns-8
 returns-8 c =

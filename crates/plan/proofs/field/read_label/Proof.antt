@@ -1,4 +1,5 @@
--- `plan::field::read_label` meets its contract: what is answered for the field after the bytes so far is the answer for the whole field. The measure is what is left of the text. Assumes nothing.
+-- `plan::field::read_label` meets its contract: what is answered for the field after the bytes so far is the answer for the whole field. The
+-- measure is what is left of the text. Assumes nothing.
 use Prim.Native.Nat.{ℕ, _+_, _-_, _≤_, _<_}
 use mathlib.Core.Path.{_≡_, sym, _∙_}
 use mathlib.Core.Bool.{true}
