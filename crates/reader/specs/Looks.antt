@@ -9,14 +9,15 @@ use lib.ListN.{length}
 use Rattle.refusals.specs.declared.Refusal.the-variants.{TextTooLong}
 use Rattle.text.specs.LineEnds.{linesSize, lines-more, lines-within}
 use Rattle.plan.specs.Reading.{Reading, accepted, refused, reading}
-use Rattle.plan.specs.Refused.{refused-by}
+use Rattle.plan.specs.Refused.{ByAuthor, refused-by}
 use Rattle.reader.specs.Verdict.{looked, verdict}
 
--- the text's length if accepted, 0 with 6, else at least the bytes before the refused line and at most those up to its end
+-- the text's length if accepted, 0 with 6, else (with a refusal that the plan's author causes) at least the bytes before the refused line and
+-- at most those up to its end
 abbrev pub AsAsked : List ℕ → Reading → ℕ → Type 0
 AsAsked text (accepted p) n = n ≡ length text
 AsAsked text (refused r zero) n = (r ≡ TextTooLong) × (n ≡ 0)
-AsAsked text (refused r (suc before)) n = (linesSize before text ≤ n) × (n ≤ linesSize (suc before) text)
+AsAsked text (refused r (suc before)) n = ByAuthor r × (linesSize before text ≤ n) × (n ≤ linesSize (suc before) text)
 
 more-lines : (n : ℕ) (text : List ℕ) → linesSize n text ≤ linesSize (suc n) text
 more-lines n text = omega (arith, ap (λ (k : ℕ). linesSize k text) (add-one n), lines-more n 1 text)
@@ -36,4 +37,5 @@ looks-asked text = by (reading text) refl
     by : (x : Reading) → reading text ≡ x → AsAsked text x (looked text x)
     by (accepted p) e = refl
     by (refused r zero) e = (⊎-elim (λ w. w .0) (λ w. absurd (omega (arith, w .1))) (refused-by text r 0 e), refl)
-    by (refused r (suc n)) e = (more-lines n text, omega arith)
+    by (refused r (suc n)) e =
+        (⊎-elim (λ w. absurd (omega (arith, w .1))) (λ w. w .0) (refused-by text r (suc n) e), more-lines n text, omega arith)
