@@ -30,23 +30,25 @@ extern "C" {
 #define SALFUNYE_STORE_SIZE 8192
 
 /* No report is longer, in bytes. */
-#define SALFUNYE_REPORT_SIZE 14433
+#define SALFUNYE_REPORT_SIZE 14438
 
-/* Refusals. 1 to 5, 9 and 10 are the plan's, with its line from 1; of two faulty
+/* Refusals. 1 to 5 and 9 to 11 are the plan's, with its line from 1; of two faulty
  * lines the first decides, and within a line the order is 1, 3, 2, 4, 5, in a W
- * line 1, 3, 2, 9. 10 follows them all. The others are the caller's, with line 0. */
+ * line 1, 3, 2, 9, in an M line 1, 3, 2, 11. 10 follows them all. The others are
+ * the caller's, with line 0. */
 enum salfunye_refusal {
     SALFUNYE_ACCEPTED = 0,
     SALFUNYE_MALFORMED = 1,        /* no line feed, unknown first field, wrong number of fields, a field not of its form */
-    SALFUNYE_OUT_OF_RANGE = 2,     /* a number out of its range, or a picked worker that there is not */
-    SALFUNYE_MISPLACED = 3,        /* W not first or again, T after an order line; an empty text */
+    SALFUNYE_OUT_OF_RANGE = 2,     /* a number out of its range, a picked worker or a mask's worker that there is not */
+    SALFUNYE_MISPLACED = 3,        /* W not first or again, T after an order line, M not directly after a T line; an empty text */
     SALFUNYE_TOO_MANY = 4,         /* a 129th task or a fifth access */
     SALFUNYE_ADDRESS_TWICE = 5,    /* an address twice in one task */
     SALFUNYE_TEXT_TOO_LONG = 6,    /* more than SALFUNYE_TEXT_SIZE bytes: a text, tested first; a result, just before 8 */
     SALFUNYE_STORE_TOO_SHORT = 7,  /* fewer than SALFUNYE_STORE_SIZE numbers; tested second */
     SALFUNYE_OUTPUT_TOO_SHORT = 8, /* shorter than the report or the result; tested last */
     SALFUNYE_TOO_FEW_SLOTS = 9,    /* a W line that names fewer slots than workers */
-    SALFUNYE_OTHER_SIZES = 10      /* to the first form: a W line that names other sizes than 64 slots and a capacity of 8; line 1 */
+    SALFUNYE_OTHER_SIZES = 10,     /* to the first form: a W line that names other sizes than 64 slots and a capacity of 8; line 1 */
+    SALFUNYE_EMPTY_MASK = 11       /* a mask of 0: no worker may run the task */
 };
 
 struct salfunye_checked {
@@ -64,7 +66,7 @@ struct salfunye_ran {
 };
 
 /*
- * Checks a plan text of text_length bytes: 0, 1 to 6 or 9, with the line, and how
+ * Checks a plan text of text_length bytes: 0, 1 to 6, 9 or 11, with the line, and how
  * often it looked at a byte of the text. A refused line is looked at to its end,
  * its line feed too if it has one, and no byte behind it.
  */

@@ -1,7 +1,7 @@
 /*
  * A C caller of the bench, the converters and the lock, by the header alone: the
- * paper's listing, refusals, what is left in store and output, the listing moved
- * to the other form and back, and some turns of the lock.
+ * paper's listing, refusals, what is left in store and output, a task tied to a
+ * worker, the listing moved to the other form and back, and some turns of the lock.
  * Buffers are taken from the heap in their exact sizes, so that a memory checker
  * sees a step past their ends.
  */
@@ -22,14 +22,18 @@ static int failures = 0;
     } while (0)
 
 static const char listing[] = "W\t2\nT\ta\t0\nP\t1\t3\nP\t0\t5\nP\t1\t4\nP\t0\t2\n";
-static const char report[] = "E\tfinished\t14\nT\t0\ta\tover\t0\t13\t14\t1\nL\t66\t66\t1\n";
+static const char report[] = "E\tfinished\t14\t2\nT\t0\ta\tover\t0\t13\t14\t1\nL\t66\t66\t1\n";
 
 /* the listing in a ring of two slots, with queues of one place; and a slot too few */
 static const char two_slots[] = "W\t2\t2\t1\nT\ta\t0\nP\t1\t3\nP\t0\t5\nP\t1\t4\nP\t0\t2\n";
-static const char two_slots_report[] = "E\tfinished\t14\nT\t0\ta\tover\t0\t13\t14\t1\nL\t4\t4\t1\n";
+static const char two_slots_report[] = "E\tfinished\t14\t2\nT\t0\ta\tover\t0\t13\t14\t1\nL\t4\t4\t1\n";
 /* the listing with the sizes of the first form spelled out */
 static const char moved[] = "W\t2\t64\t8\nT\ta\t0\nP\t1\t3\nP\t0\t5\nP\t1\t4\nP\t0\t2\n";
 static const char few_slots[] = "W\t2\t1\t8\n";
+/* a task for worker 3 alone, with two owners before the one whose front waiter is worker 3; and one for nobody */
+static const char tied[] = "W\t4\nT\ta\t5\nM\t8\nP\t0\t3\nP\t1\t3\nP\t2\t2\nP\t0\t2\nP\t3\t2\nP\t1\t6\nP\t2\t7\nP\t0\t7\nP\t3\t10\n";
+static const char tied_report[] = "E\tfinished\t39\t1\nT\t0\ta\tover\t3\t33\t39\t0\nL\t68\t68\t0\n";
+static const char nobody[] = "W\t4\nT\ta\t0\nM\t0\nR\t1\n";
 
 static void *taken(size_t size) {
     void *room = malloc(size > 0 ? size : 1);
@@ -94,12 +98,21 @@ static void bench(void) {
     checked = check(few_slots, strlen(few_slots));
     EXPECT(checked.number == SALFUNYE_TOO_FEW_SLOTS && checked.line == 1 && checked.looks == 8);
     EXPECT(SALFUNYE_TOO_FEW_SLOTS == 9);
+    checked = check(tied, strlen(tied));
+    EXPECT(checked.number == SALFUNYE_ACCEPTED && checked.line == 0 && checked.looks == strlen(tied));
+    checked = check(nobody, strlen(nobody));
+    EXPECT(checked.number == SALFUNYE_EMPTY_MASK && checked.line == 3 && checked.looks == 14);
+    EXPECT(SALFUNYE_EMPTY_MASK == 11);
+    checked = check("W\t4\nT\ta\t0\nM\t16\n", 15);
+    EXPECT(checked.number == SALFUNYE_OUT_OF_RANGE && checked.line == 3 && checked.looks == 15);
+    checked = check("W\t4\nM\t0\nT\ta\t0\n", 14);
+    EXPECT(checked.number == SALFUNYE_MISPLACED && checked.line == 2 && checked.looks == 8);
 
     struct salfunye_ran ran = run(listing, size, UINT64_MAX, SALFUNYE_STORE_SIZE, length, report);
     EXPECT(ran.number == 0 && ran.line == 0 && ran.picks == 14);
     ran = run(listing, size, 14, SALFUNYE_STORE_SIZE + 9, SALFUNYE_REPORT_SIZE, report);
     EXPECT(ran.number == 0 && ran.picks == 14);
-    ran = run(listing, size, 3, SALFUNYE_STORE_SIZE, 100, "E\topen\t3\nT\t0\ta\tnew\t-\t-\t-\t-\nL\t65\t65\t1\n");
+    ran = run(listing, size, 3, SALFUNYE_STORE_SIZE, 100, "E\topen\t3\t2\nT\t0\ta\tnew\t-\t-\t-\t-\nL\t65\t65\t1\n");
     EXPECT(ran.number == 0 && ran.picks == 3);
     ran = run(listing, size, UINT64_MAX, SALFUNYE_STORE_SIZE, length - 1, NULL);
     EXPECT(ran.number == SALFUNYE_OUTPUT_TOO_SHORT && ran.line == 0 && ran.picks == 0);
@@ -111,6 +124,10 @@ static void bench(void) {
     EXPECT(ran.number == 0 && ran.line == 0 && ran.picks == 14);
     ran = run(few_slots, strlen(few_slots), UINT64_MAX, SALFUNYE_STORE_SIZE, 100, NULL);
     EXPECT(ran.number == SALFUNYE_TOO_FEW_SLOTS && ran.line == 1 && ran.picks == 0);
+    ran = run(tied, strlen(tied), UINT64_MAX, SALFUNYE_STORE_SIZE, strlen(tied_report), tied_report);
+    EXPECT(ran.number == 0 && ran.line == 0 && ran.picks == 39);
+    ran = run(nobody, strlen(nobody), UINT64_MAX, SALFUNYE_STORE_SIZE, 100, NULL);
+    EXPECT(ran.number == SALFUNYE_EMPTY_MASK && ran.line == 3 && ran.picks == 0);
 
     char *large = taken(SALFUNYE_TEXT_SIZE + 1);
     memset(large, 'W', SALFUNYE_TEXT_SIZE + 1);
@@ -191,6 +208,10 @@ static void converters(void) {
     EXPECT(written.number == SALFUNYE_ACCEPTED);
     written = convert(salfunye_to_first, few_slots, strlen(few_slots), 100, "");
     EXPECT(written.number == SALFUNYE_TOO_FEW_SLOTS && written.line == 1);
+    written = convert(salfunye_to_first, nobody, strlen(nobody), 100, "");
+    EXPECT(written.number == SALFUNYE_EMPTY_MASK && written.line == 3);
+    written = convert(salfunye_to_first, tied, strlen(tied), strlen(tied), tied);
+    EXPECT(written.number == SALFUNYE_ACCEPTED);
     written = convert(salfunye_to_second, "", 0, 0, "");
     EXPECT(written.number == SALFUNYE_MISPLACED && written.line == 1);
 
@@ -208,12 +229,15 @@ static void converters(void) {
     }
 }
 
-/* 32 workers, 128 tasks of four accesses: every array of a run is in use. `sizes` is what the W line has besides. */
-static void busy(const char *sizes) {
+/* 32 workers, 128 tasks of four accesses, each for one worker alone where it has a mask: every array of a run is in use.
+ * `sizes` is what the W line has besides. */
+static void busy(const char *sizes, bool masks) {
     char *text = taken(SALFUNYE_TEXT_SIZE);
     size_t size = (size_t)sprintf(text, "W\t32%s\n", sizes);
-    for (unsigned i = 0; i < 128; i++)
+    for (unsigned i = 0; i < 128; i++) {
         size += (size_t)sprintf(text + size, "T\tabcdefghijklmnop\t%u\tr%u\tw%u\tr%u\tw%u\n", i % 40, i % 5, 10 + i % 7, 20 + i % 3, 30 + i % 11);
+        if (masks) size += (size_t)sprintf(text + size, "M\t%u\n", 1u << i * 7 % 32);
+    }
     size += (size_t)sprintf(text + size, "P\t0\t900\nS\t18446744073709551615\t20000\nR\t100000\n");
     uint64_t *store = taken(SALFUNYE_STORE_SIZE * sizeof *store);
     uint8_t *output = taken(SALFUNYE_REPORT_SIZE);
@@ -273,10 +297,12 @@ static void lock(void) {
 int main(void) {
     bench();
     converters();
-    busy("");
-    busy("\t32\t1");
-    busy("\t33\t16");
-    busy("\t64\t16");
+    busy("", false);
+    busy("\t32\t1", false);
+    busy("\t33\t16", false);
+    busy("\t64\t16", false);
+    busy("", true);
+    busy("\t33\t1", true);
     lock();
     if (failures == 0) puts("ok");
     return failures == 0 ? 0 : 1;

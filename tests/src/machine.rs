@@ -40,6 +40,14 @@ pub struct TaskRecord {
     pub first: usize,
     pub accesses: usize,
     pub cost: u64,
+    /// Who may run it; bit i is worker i.
+    pub permitted: u64,
+}
+
+impl TaskRecord {
+    pub fn permits(&self, worker: usize) -> bool {
+        self.permitted >> worker & 1 == 1
+    }
 }
 
 #[derive(Clone, Debug)]
@@ -131,6 +139,13 @@ pub struct Counters {
     pub served: u64,
     pub own_receipts: u64,
     pub cell_receipts: u64,
+    /// Tasks that an owner served a waiter with, or took, past the first ready one.
+    pub served_past: u64,
+    pub taken_past: u64,
+    /// An owner stopped serving at a waiter that may run no ready task; an owner took
+    /// none, as it may run no ready task.
+    pub stopped_serving: u64,
+    pub left_ready: u64,
 }
 
 #[derive(Clone, Debug)]
@@ -194,6 +209,7 @@ impl Machine {
                 first: self.accesses.len(),
                 accesses: task.accesses.len(),
                 cost: task.cost,
+                permitted: plan.permitted(task),
             });
             self.accesses
                 .extend(task.accesses.iter().map(|access| AccessRecord {
@@ -291,25 +307,47 @@ impl Machine {
         (next < self.workers.len()).then_some(next)
     }
 
+    /// Serves the front waiter with the first ready task that it may run; where there is
+    /// none for it, and where nobody may be served, takes for itself in this same step.
     fn serve_or_take(&mut self, worker: usize) -> Place {
         let may_serve = self.workers[worker].served + 1 < self.workers.len();
         let waiter = if may_serve { self.lock.front() } else { None };
-        let task = self.ready.pop_front();
-        match (task, waiter) {
-            (Some(task), Some(waiter)) => {
-                self.lock.fill(waiter, task as u64);
-                self.tasks[task].state = State::Held;
-                self.counters.served += 1;
-                Place::HandOver
+        if let Some(waiter) = waiter {
+            if let Some(at) = self.first_for(waiter) {
+                self.serve(waiter, at);
+                return Place::HandOver;
             }
-            (Some(task), None) => {
-                self.counters.own_receipts += 1;
-                self.tasks[task].giver = Some(worker);
-                self.receive(worker, task);
-                Place::Leave
-            }
-            (None, _) => Place::Leave,
+            self.counters.stopped_serving += u64::from(!self.ready.is_empty());
         }
+        match self.first_for(worker) {
+            Some(at) => self.take(worker, at),
+            None => self.counters.left_ready += u64::from(!self.ready.is_empty()),
+        }
+        Place::Leave
+    }
+
+    /// Where in the ready list the first task stands that a worker may run.
+    fn first_for(&self, worker: usize) -> Option<usize> {
+        let mut ready = self.ready.iter();
+        ready.position(|&task| self.tasks[task].permits(worker))
+    }
+
+    /// Puts a ready task into a waiter's cell.
+    fn serve(&mut self, waiter: usize, at: usize) {
+        let task = self.ready.remove(at).expect("a ready task");
+        self.lock.fill(waiter, task as u64);
+        self.tasks[task].state = State::Held;
+        self.counters.served += 1;
+        self.counters.served_past += u64::from(at > 0);
+    }
+
+    /// Takes a ready task for its owner.
+    fn take(&mut self, owner: usize, at: usize) {
+        let task = self.ready.remove(at).expect("a ready task");
+        self.tasks[task].giver = Some(owner);
+        self.receive(owner, task);
+        self.counters.own_receipts += 1;
+        self.counters.taken_past += u64::from(at > 0);
     }
 
     /// A task that waits in the cell of who is let in has its giver from here on, before the look.

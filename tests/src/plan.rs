@@ -2,7 +2,7 @@
 //!
 //! One pass with a cursor gives the form of a line; the line is then judged in
 //! the paper's order: form 1, place 3, range 2, amount 4, repeat 5; a W line
-//! after its ranges for its slots, 9.
+//! after its ranges for its slots, 9; an M line after its range for a mask of 0, 11.
 
 /// The longest text that is read, in bytes.
 pub const TEXT_LIMIT: usize = 65_536;
@@ -25,6 +25,7 @@ pub mod refusal {
     pub const OUTPUT_SIZE: u8 = 8;
     pub const FEW_SLOTS: u8 = 9;
     pub const OTHER_SIZES: u8 = 10;
+    pub const EMPTY_MASK: u8 = 11;
 }
 
 /// Lines count from 1; line 0 stands for the caller.
@@ -45,6 +46,28 @@ pub struct Plan {
     pub form: Form,
     pub tasks: Vec<Task>,
     pub orders: Vec<Order>,
+}
+
+impl Plan {
+    /// The mask of all workers; bit i is worker i.
+    pub fn everybody(&self) -> u64 {
+        (1 << self.workers) - 1
+    }
+
+    pub fn has_masks(&self) -> bool {
+        self.tasks.iter().any(|task| task.mask.is_some())
+    }
+
+    /// The workers that may run a task, as a mask; all of them where no M line names them.
+    pub fn permitted(&self, task: &Task) -> u64 {
+        task.mask.unwrap_or(self.everybody())
+    }
+
+    /// The total of permitted workers over all tasks.
+    pub fn permissions(&self) -> u32 {
+        let tasks = self.tasks.iter();
+        tasks.map(|task| self.permitted(task).count_ones()).sum()
+    }
 }
 
 /// The form of a plan, by what its W line names beside the workers.
@@ -75,6 +98,8 @@ pub struct Task {
     pub label: Label,
     pub cost: u64,
     pub accesses: Vec<Access>,
+    /// What its M line says, if it has one.
+    pub mask: Option<u64>,
 }
 
 /// Where the label stands in the plan text.
@@ -149,6 +174,7 @@ impl Number {
 enum Line {
     Workers(WorkersLine),
     Task(TaskLine),
+    Mask(Number),
     Repeat(Number, Number),
     Rounds(Number),
     Seeded(Number, Number),
@@ -175,6 +201,7 @@ impl Plan {
         match line {
             Line::Workers(line) => self.accept_workers(line)?,
             Line::Task(line) => self.accept_task(line)?,
+            Line::Mask(mask) => self.accept_mask(mask)?,
             Line::Repeat(worker, times) => {
                 let worker = worker.within(0, self.workers - 1)?;
                 let times = times.within(1, 4_096)?;
@@ -228,7 +255,24 @@ impl Plan {
             label: line.label,
             cost,
             accesses,
+            mask: None,
         });
+        Ok(())
+    }
+
+    /// The line before is a T line where the last task has no mask yet and no order
+    /// line has come.
+    fn accept_mask(&mut self, mask: Number) -> Result<(), u8> {
+        let everybody = self.everybody();
+        let task = match self.tasks.last_mut() {
+            Some(task) if task.mask.is_none() && self.orders.is_empty() => task,
+            _ => return Err(refusal::PLACE),
+        };
+        let mask = mask.within(0, everybody)?;
+        if mask == 0 {
+            return Err(refusal::EMPTY_MASK);
+        }
+        task.mask = Some(mask);
         Ok(())
     }
 }
@@ -273,6 +317,7 @@ impl Cursor<'_> {
         let line = match kind {
             b'W' => Line::Workers(self.workers()?),
             b'T' => Line::Task(self.task()?),
+            b'M' => Line::Mask(self.number()?),
             b'P' => {
                 let worker = self.number()?;
                 self.expect(b'\t')?;

@@ -1,19 +1,25 @@
-//! Random plan texts of both forms, accepted and damaged ones.
+//! Random plan texts of both forms, with M lines and without, accepted and damaged ones.
 
 mod damage;
 mod draft;
 mod form;
+mod masks;
 mod rng;
 mod sample;
 
 pub use damage::damaged;
 pub use form::{first_form, is_first_form, with_sizes};
+pub use masks::{has_masks, with_everybody, with_masks, without_masks};
 pub use rng::Rng;
 pub use sample::sample;
 
 use crate::plan::TEXT_LIMIT;
 use draft::{addresses, join, line, order_line, Line, OrderSize, Pattern, Tasks};
 use form::{form, workers_line};
+use masks::tied;
+
+/// Of nine plans of a shape, so many have M lines if they have tasks.
+const TIED: u64 = 5;
 
 #[derive(Clone, Copy, Debug, PartialEq, Eq)]
 pub enum Shape {
@@ -56,7 +62,8 @@ fn small(rng: &mut Rng) -> Vec<Line> {
         max_label: 4,
     };
     let mut lines = vec![workers_line(workers, form)];
-    lines.extend(tasks.lines(rng));
+    let tasks = tasks.lines(rng);
+    lines.extend(tied(rng, TIED, workers, tasks));
     if matches!(pattern, Pattern::Fan | Pattern::Burst) || rng.one_in(4) {
         lines.extend(opening(rng, workers, capacity));
     }
@@ -122,7 +129,8 @@ fn medium(rng: &mut Rng) -> Vec<Line> {
         max_label: 16,
     };
     let mut lines = vec![workers_line(workers, form)];
-    lines.extend(tasks.lines(rng));
+    let tasks = tasks.lines(rng);
+    lines.extend(tied(rng, TIED, workers, tasks));
     if matches!(pattern, Pattern::Fan | Pattern::Burst) || rng.one_in(3) {
         lines.extend(opening(rng, workers, form.capacity()));
     }
@@ -169,7 +177,8 @@ fn large_tasks(rng: &mut Rng, workers: u64) -> Vec<Line> {
         max_label: 16,
     };
     let mut lines = vec![workers_line(workers, form(rng, workers))];
-    lines.extend(tasks.lines(rng));
+    let tasks = tasks.lines(rng);
+    lines.extend(tied(rng, TIED, workers, tasks));
     lines
 }
 

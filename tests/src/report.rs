@@ -13,7 +13,7 @@ pub fn report(text: &[u8], plan: &Plan, machine: &Machine) -> Vec<u8> {
     } else {
         "open"
     };
-    line(&mut out, &[&"E", &end, &machine.picks]);
+    line(&mut out, &[&"E", &end, &machine.picks, &plan.permissions()]);
     for (number, (task, record)) in plan.tasks.iter().zip(&machine.tasks).enumerate() {
         let label = String::from_utf8_lossy(task.label.of(text));
         line(

@@ -8,7 +8,14 @@ use second::run;
 use second::text::lines;
 
 const BOTH: [Converter; 2] = [to_second, to_first];
-const REST: [&str; 5] = ["T a 0 w5", "T b-2 10 r5 w7", "P 0 3", "R 2", "S 9 40"];
+const REST: [&str; 6] = [
+    "T a 0 w5",
+    "M 1",
+    "T b-2 10 r5 w7",
+    "P 0 3",
+    "R 2",
+    "S 9 40",
+];
 
 /// A plan of these lines behind a W line.
 fn with_rest(first: &str) -> Vec<u8> {
@@ -97,6 +104,9 @@ fn refusals_of_the_reader() {
         assert_eq!(refused(convert, &["W 2", "R 1", "T a 0"]), (3, 3));
         assert_eq!(refused(convert, &["W 2", "T a 0 r1 r2 r3 r4 r5"]), (4, 2));
         assert_eq!(refused(convert, &["W 2", "T a 0 r5 r5"]), (5, 2));
+        assert_eq!(refused(convert, &["W 2", "T a 0", "M 4"]), (2, 3));
+        assert_eq!(refused(convert, &["W 2", "R 1", "M 1"]), (3, 3));
+        assert_eq!(refused(convert, &["W 2", "T a 0", "M 0"]), (11, 3));
         assert_eq!(result(convert, &vec![b'W'; 65_537]), Err((6, 0)));
     }
 }
@@ -110,8 +120,9 @@ fn order_of_other_sizes() {
     assert_eq!(refused(to_first, &["W 4 64 9", "R 1", "R 0"]), (2, 3));
     assert_eq!(refused(to_first, &["W 4 5 6", "W 4"]), (3, 2));
     assert_eq!(refused(to_first, &["W 4 5 6", "T a 0 r5 r5"]), (5, 2));
+    assert_eq!(refused(to_first, &["W 4 5 6", "T a 0", "M 0"]), (11, 3));
     let unended = [&with_rest("W 4 63 8")[..], b"R\t1"].concat();
-    assert_eq!(result(to_first, &unended), Err((1, 7)));
+    assert_eq!(result(to_first, &unended), Err((1, 8)));
     for room in 0..80 {
         let answer = converted(to_first, &with_rest("W 4 63 8"), room);
         assert_eq!(answer, Err((10, 1)));

@@ -23,7 +23,7 @@ fn refused(plan: &[&str]) -> (u8, u64) {
 }
 
 const LISTING: [&str; 6] = ["W 2", "T a 0", "P 1 3", "P 0 5", "P 1 4", "P 0 2"];
-const LISTING_REPORT: &str = "E\tfinished\t14\nT\t0\ta\tover\t0\t13\t14\t1\nL\t66\t66\t1\n";
+const LISTING_REPORT: &str = "E\tfinished\t14\t2\nT\t0\ta\tover\t0\t13\t14\t1\nL\t66\t66\t1\n";
 
 #[test]
 fn empty_text() {
@@ -40,21 +40,21 @@ fn number_of_workers() {
 
 #[test]
 fn no_tasks() {
-    assert_eq!(shown(&["W 1"]), "E finished 0\nL 64 65 -\n");
-    assert_eq!(shown(&["W 32", "R 5"]), "E finished 0\nL 64 65 -\n");
+    assert_eq!(shown(&["W 1"]), "E finished 0 0\nL 64 65 -\n");
+    assert_eq!(shown(&["W 32", "R 5"]), "E finished 0 0\nL 64 65 -\n");
 }
 
 #[test]
 fn no_order() {
     assert_eq!(
         shown(&["W 1", "T a 0"]),
-        "E open 0\nT 0 a new - - - -\nL 64 65 -\n"
+        "E open 0 1\nT 0 a new - - - -\nL 64 65 -\n"
     );
 }
 
 #[test]
 fn one_task_one_worker() {
-    let report = "E finished 10\nT 0 a over 0 8 10 0\nL 65 66 -\n";
+    let report = "E finished 10 1\nT 0 a over 0 8 10 0\nL 65 66 -\n";
     assert_eq!(shown(&["W 1", "T a 0", "R 20"]), report);
 }
 
@@ -85,11 +85,11 @@ fn listing_from_the_program() {
 fn idle_worker_alone() {
     assert_eq!(
         shown(&["W 2", "T a 0", "P 1 3"]),
-        "E open 3\nT 0 a new - - - -\nL 65 65 1\n"
+        "E open 3 2\nT 0 a new - - - -\nL 65 65 1\n"
     );
     assert_eq!(
         shown(&["W 2", "T a 0", "P 1 7"]),
-        "E open 7\nT 0 a new - - - -\nL 65 66 -\n"
+        "E open 7 2\nT 0 a new - - - -\nL 65 66 -\n"
     );
 }
 
@@ -122,7 +122,7 @@ fn chain_flags() {
 /// The first message and DONE need no notice step.
 #[test]
 fn one_access_one_worker() {
-    let report = "E finished 13\nT 0 a over 0 10 12 0\nL 65 66 -\n";
+    let report = "E finished 13 1\nT 0 a over 0 10 12 0\nL 65 66 -\n";
     assert_eq!(shown(&["W 1", "T a 0 w5", "R 40"]), report);
 }
 
@@ -131,9 +131,9 @@ fn one_access_one_worker() {
 fn owner_with_nothing_ready() {
     assert_eq!(
         shown(&["W 1", "T a 0", "P 0 2"]),
-        "E open 2\nT 0 a ready - - - -\nL 64 65 -\n"
+        "E open 2 1\nT 0 a ready - - - -\nL 64 65 -\n"
     );
-    let report = "E open 6\nT 0 a new - - - -\nL 65 65 1\n";
+    let report = "E open 6 2\nT 0 a new - - - -\nL 65 65 1\n";
     assert_eq!(shown(&["W 2", "T a 0", "P 1 6"]), report);
 }
 
@@ -144,46 +144,46 @@ fn every_state_is_shown() {
         all.extend_from_slice(orders);
         shown(&all)
     };
-    assert_eq!(plan(&[]), "E open 0\nT 0 a new - - - -\nL 64 65 -\n");
+    assert_eq!(plan(&[]), "E open 0 2\nT 0 a new - - - -\nL 64 65 -\n");
     assert_eq!(
         plan(&["P 0 1"]),
-        "E open 1\nT 0 a waiting - - - -\nL 64 65 -\n"
+        "E open 1 2\nT 0 a waiting - - - -\nL 64 65 -\n"
     );
     assert_eq!(
         plan(&["P 0 2"]),
-        "E open 2\nT 0 a ready - - - -\nL 64 65 -\n"
+        "E open 2 2\nT 0 a ready - - - -\nL 64 65 -\n"
     );
     // Worker 1 owns and drains; worker 0 waits and is served.
     let held = ["P 0 3", "P 1 3", "P 0 2", "P 1 3"];
-    assert_eq!(plan(&held), "E open 11\nT 0 a held - - - -\nL 66 65 1\n");
+    assert_eq!(plan(&held), "E open 11 2\nT 0 a held - - - -\nL 66 65 1\n");
     // A look before the hand-over changes nothing.
     let early_look = ["P 0 3", "P 1 3", "P 0 2", "P 1 3", "P 0 1"];
     assert_eq!(
         plan(&early_look),
-        "E open 12\nT 0 a held - - - -\nL 66 65 1\n"
+        "E open 12 2\nT 0 a held - - - -\nL 66 65 1\n"
     );
     // Handed over: the giver shows before the look.
     let handed_over = ["P 0 3", "P 1 3", "P 0 2", "P 1 4"];
     assert_eq!(
         plan(&handed_over),
-        "E open 12\nT 0 a held - - - 1\nL 66 66 1\n"
+        "E open 12 2\nT 0 a held - - - 1\nL 66 66 1\n"
     );
     let received = ["P 0 3", "P 1 3", "P 0 2", "P 1 4", "P 0 1"];
     assert_eq!(
         plan(&received),
-        "E open 13\nT 0 a run 0 13 - 1\nL 66 66 1\n"
+        "E open 13 2\nT 0 a run 0 13 - 1\nL 66 66 1\n"
     );
     let over = ["P 0 3", "P 1 3", "P 0 2", "P 1 4", "P 0 9"];
     assert_eq!(
         plan(&over),
-        "E finished 15\nT 0 a over 0 13 15 1\nL 66 66 1\n"
+        "E finished 15 2\nT 0 a over 0 13 15 1\nL 66 66 1\n"
     );
 }
 
 /// Who takes a task from the ready list is its giver at once, before it leaves.
 #[test]
 fn own_giver() {
-    let report = "E open 8\nT 0 a run 0 8 - 0\nL 65 65 0\n";
+    let report = "E open 8 1\nT 0 a run 0 8 - 0\nL 65 65 0\n";
     assert_eq!(shown(&["W 1", "T a 0", "P 0 8"]), report);
 }
 
@@ -193,7 +193,7 @@ fn own_giver() {
 fn let_in_by_another_and_own_giver() {
     // Worker 1 has drained before the push, takes nothing and lets worker 0 in at 12.
     let plan = ["W 2", "T a 0", "P 1 5", "P 0 5", "P 1 2", "P 0 4"];
-    let report = "E open 16\nT 0 a run 0 16 - 0\nL 66 66 0\n";
+    let report = "E open 16 2\nT 0 a run 0 16 - 0\nL 66 66 0\n";
     assert_eq!(shown(&plan), report);
 }
 
@@ -207,7 +207,7 @@ fn old_cell() {
     ];
     let machine = play(&check(&lines(&plan)).unwrap(), u64::MAX);
     assert!(machine.lock.turn(67) && machine.lock.cells[0] == (65, 0));
-    let report = "E open 30\nT 0 a over 0 22 23 1\nT 1 b run 1 17 - 1\nL 68 68 -\n";
+    let report = "E open 30 6\nT 0 a over 0 22 23 1\nT 1 b run 1 17 - 1\nL 68 68 -\n";
     assert_eq!(shown(&plan), report);
 }
 
@@ -375,7 +375,7 @@ fn order_lines_in_full() {
 #[test]
 fn labels() {
     let report = shown(&["W 1", "T -a-Z9 0", "T -a-Z9 0", "T 0123456789abcdef 0"]);
-    let expected = "E open 0\nT 0 -a-Z9 new - - - -\nT 1 -a-Z9 new - - - -\n\
+    let expected = "E open 0 3\nT 0 -a-Z9 new - - - -\nT 1 -a-Z9 new - - - -\n\
                     T 2 0123456789abcdef new - - - -\nL 64 65 -\n";
     assert_eq!(report, expected);
 }
@@ -385,7 +385,7 @@ fn labels() {
 /// The oldest of a queue is ready first, and the first ready is taken.
 #[test]
 fn oldest_first() {
-    let report = "E finished 20\nT 0 a over 0 11 13 0\nT 1 b over 0 18 20 0\nL 66 67 -\n";
+    let report = "E finished 20 2\nT 0 a over 0 11 13 0\nT 1 b over 0 18 20 0\nL 66 67 -\n";
     assert_eq!(shown(&["W 1", "T a 0", "T b 0", "R 40"]), report);
 }
 
@@ -396,7 +396,7 @@ fn drained_to_the_end() {
         "W 2", "T a 0", "T b 0", "T c 0", "P 0 6", "P 1 7", "P 0 3", "P 1 7",
     ];
     let report =
-        "E open 23\nT 0 a over 1 12 17 1\nT 1 b run 1 23 - 1\nT 2 c ready - - - -\nL 66 66 1\n";
+        "E open 23 6\nT 0 a over 1 12 17 1\nT 1 b run 1 23 - 1\nT 2 c ready - - - -\nL 66 66 1\n";
     assert_eq!(shown(&plan), report);
 }
 
@@ -407,7 +407,7 @@ fn served_in_a_session() {
         "W 2", "T a 0", "T b 0", "T c 0", "P 0 9", "P 1 5", "P 0 2", "P 1 2", "P 0 4", "P 1 1",
     ];
     let report =
-        "E open 23\nT 0 a over 0 19 20 1\nT 1 b run 1 23 - 1\nT 2 c ready - - - -\nL 67 66 1\n";
+        "E open 23 6\nT 0 a over 0 19 20 1\nT 1 b run 1 23 - 1\nT 2 c ready - - - -\nL 67 66 1\n";
     assert_eq!(shown(&plan), report);
 }
 
@@ -418,7 +418,7 @@ fn served_in_the_next_session() {
         "W 2", "T a 0", "T b 0", "T c 0", "T d 0", "T e 0", "P 0 15", "P 1 5", "P 0 2", "P 1 5",
         "P 0 2", "P 1 5", "P 0 2", "P 1 1",
     ];
-    let report = "E open 37\nT 0 a over 0 28 29 1\nT 1 b over 1 25 27 1\nT 2 c held - - - -\n\
+    let report = "E open 37 10\nT 0 a over 0 28 29 1\nT 1 b over 1 25 27 1\nT 2 c held - - - -\n\
                   T 3 d ready - - - -\nT 4 e ready - - - -\nL 68 67 1\n";
     assert_eq!(shown(&plan), report);
 }
@@ -431,7 +431,7 @@ fn not_past_an_unregistered_ticket() {
         "W 3", "T a 0", "T b 0", "P 0 6", "P 1 6", "P 2 1", "P 0 2", "P 1 2",
     ];
     // Worker 1 owns and has drained; worker 2 has ticket 65, worker 0 waits with 66.
-    let report = "E open 17\nT 0 a run 1 16 - 1\nT 1 b ready - - - -\nL 67 66 -\n";
+    let report = "E open 17 6\nT 0 a run 1 16 - 1\nT 1 b ready - - - -\nL 67 66 -\n";
     assert_eq!(shown(&plan), report);
 }
 
@@ -439,7 +439,7 @@ fn not_past_an_unregistered_ticket() {
 #[test]
 fn messages_in_order() {
     let plan = ["W 1", "T a 0 w5 w7", "T b 0 w5", "T c 0 w7", "R 90"];
-    let report = "E finished 46\nT 0 a over 0 20 22 0\nT 1 b over 0 35 37 0\n\
+    let report = "E finished 46 3\nT 0 a over 0 20 22 0\nT 1 b over 0 35 37 0\n\
                   T 2 c over 0 43 45 0\nL 67 68 -\n";
     assert_eq!(shown(&plan), report);
 }
@@ -447,6 +447,6 @@ fn messages_in_order() {
 /// Cost steps of work, then the one that ends the task.
 #[test]
 fn cost() {
-    let report = "E finished 13\nT 0 a over 0 8 13 0\nL 65 66 -\n";
+    let report = "E finished 13 1\nT 0 a over 0 8 13 0\nL 65 66 -\n";
     assert_eq!(shown(&["W 1", "T a 3", "R 20"]), report);
 }

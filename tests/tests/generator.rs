@@ -5,7 +5,10 @@ use std::collections::BTreeMap;
 use second::machine::{Counters, Machine, Place};
 use second::order::Picks;
 use second::plan::{check, Form, Order, Plan};
-use second::random::{damaged, first_form, is_first_form, plan, sample, Rng, Shape};
+use second::random::{
+    damaged, first_form, has_masks, is_first_form, plan, sample, with_masks, without_masks, Rng,
+    Shape,
+};
 use second::run::play;
 
 fn texts(shape: Shape, count: usize, seed: u64) -> Vec<Vec<u8>> {
@@ -60,6 +63,10 @@ impl Seen {
             served,
             own_receipts,
             cell_receipts,
+            served_past,
+            taken_past,
+            stopped_serving,
+            left_ready,
         } = machine.counters;
         self.add("full queue", full_queue > 0);
         self.add("try won", tries_won > 0);
@@ -69,6 +76,10 @@ impl Seen {
         self.add("served", served > 0);
         self.add("receipt by the owner", own_receipts > 0);
         self.add("receipt from a cell", cell_receipts > 0);
+        self.add("served past the first ready task", served_past > 0);
+        self.add("taken past the first ready task", taken_past > 0);
+        self.add("stopped serving", stopped_serving > 0);
+        self.add("left with tasks ready", left_ready > 0);
         self.add("seeded pick", reached_seeded(plan, machine.picks));
         self.add(
             "finished with tasks",
@@ -97,6 +108,25 @@ impl Seen {
         self.add("a full queue of 1", full && capacity == 1);
         self.add("a full queue of 2 to 7", full && (2..8).contains(&capacity));
         self.add("a full queue of more than 8", full && capacity > 8);
+    }
+
+    /// Which masks a plan has.
+    fn add_masks(&mut self, plan: &Plan) {
+        let masks = plan.tasks.iter().filter_map(|task| task.mask);
+        let ones: Vec<u64> = masks.map(|mask| u64::from(mask.count_ones())).collect();
+        let (tied, all) = (ones.len(), plan.tasks.len());
+        let several = plan.workers > 1;
+        self.add("tasks and no M line", tied == 0 && all > 0);
+        self.add("an M line for some tasks", (1..all).contains(&tied));
+        self.add("an M line for each task", tied == all && all > 0);
+        self.add("one worker of several", several && ones.contains(&1));
+        let few = |&ones: &u64| ones > 1 && ones < plan.workers;
+        self.add("some workers", ones.iter().any(few));
+        self.add("all workers", several && ones.contains(&plan.workers));
+        let same = plan.tasks.iter().all(|task| {
+            task.mask.is_some_and(u64::is_power_of_two) && task.mask == plan.tasks[0].mask
+        });
+        self.add("the same worker for each task", several && all > 1 && same);
     }
 
     fn each_at_least(&self, count: usize) {
@@ -149,17 +179,71 @@ fn small_and_medium_runs_hit_what_matters() {
             seen.add("try by another than worker 0", other_tried);
             seen.add("first form", plan.form == Form::First);
             seen.add_sizes(&plan, &machine);
+            seen.add_masks(&plan);
+            let waited = machine.counters.left_ready > 0 && machine.finished();
+            seen.add("left with tasks ready, and finished", waited);
         }
         seen.each_at_least(20);
     }
 }
 
+/// Two plans in five have an M line, those of every shape; they can be drawn with M
+/// lines and without.
+#[test]
+fn plans_with_masks_and_without() {
+    for (shape, count) in [
+        (Shape::Small, 1_000),
+        (Shape::Medium, 1_000),
+        (Shape::Large, 60),
+        (Shape::Full, 60),
+    ] {
+        let texts = texts(shape, count, 12);
+        let tied = texts.iter().filter(|text| has_masks(text)).count();
+        assert!(
+            (2 * count / 5..=3 * count / 5).contains(&tied),
+            "{shape:?}: {tied}"
+        );
+        let rng = &mut Rng::new(13);
+        for _ in 0..20 {
+            let tied = with_masks(rng, |rng| plan(rng, shape));
+            assert!(check(&tied).unwrap().has_masks());
+            let free = without_masks(rng, |rng| plan(rng, shape));
+            assert!(!check(&free).unwrap().has_masks());
+        }
+    }
+    assert!(has_masks(b"M") && has_masks(b"M\t1\n") && has_masks(b"W\t1\nM\t\t\n"));
+    assert!(!has_masks(b"W\t1\nT\tM\t0\nm\t1\nMM\t1\n\tM\t1\n"));
+}
+
+/// Texts drawn without M lines: none at any place, damaged or not, and every refusal
+/// but 11 is met.
+#[test]
+fn without_masks_alone() {
+    let rng = &mut Rng::new(14);
+    let mut counts = [0usize; 12];
+    for _ in 0..3_000 {
+        let text = without_masks(rng, |rng| match rng.below(3) {
+            0 => plan(rng, Shape::Small),
+            _ => damaged(rng),
+        });
+        assert!(!text
+            .split(|&byte| byte == b'\n')
+            .any(|line| line.starts_with(b"M\t")));
+        if let Err(refusal) = check(&text) {
+            counts[usize::from(refusal.number)] += 1;
+        }
+    }
+    let often = |&number: &usize| counts[number] >= 50;
+    assert!([1, 2, 3, 4, 5, 6, 9].iter().all(often), "{counts:?}");
+    assert_eq!(counts[11], 0);
+}
+
 /// A text drawn as one of the first form has no W line with sizes, whether it is
-/// refused or not; every refusal but 9 is met.
+/// refused or not; every refusal of the reader but 9 is met.
 #[test]
 fn first_form_alone() {
     let rng = &mut Rng::new(11);
-    let mut counts = [0usize; 10];
+    let mut counts = [0usize; 12];
     for _ in 0..2_000 {
         let text = first_form(rng, |rng| match rng.below(3) {
             0 => plan(rng, Shape::Small),
@@ -171,7 +255,8 @@ fn first_form_alone() {
             Err(refusal) => counts[usize::from(refusal.number)] += 1,
         }
     }
-    assert!(counts[1..=6].iter().all(|&count| count >= 50), "{counts:?}");
+    let often = |&number: &usize| counts[number] >= 50;
+    assert!([1, 2, 3, 4, 5, 6, 11].iter().all(often), "{counts:?}");
     assert_eq!(counts[9], 0);
     assert!(!is_first_form(b"W\t1\t1\t1\n"));
     assert!(!is_first_form(b"W\t1\nR\t1\nW\tx\t\t1\n"));
@@ -190,13 +275,13 @@ fn large_runs() {
 #[test]
 fn damaged_texts_give_each_refusal_often() {
     let rng = &mut Rng::new(8);
-    let mut counts = [0usize; 10];
+    let mut counts = [0usize; 12];
     for _ in 0..4_000 {
         let number = check(&damaged(rng)).map_or_else(|refusal| refusal.number, |_| 0);
         counts[usize::from(number)] += 1;
     }
     let often = |&number: &usize| counts[number] >= 200;
-    assert!([1, 2, 3, 4, 5, 6, 9].iter().all(often), "{counts:?}");
+    assert!([1, 2, 3, 4, 5, 6, 9, 11].iter().all(often), "{counts:?}");
     assert!(counts[0] <= 1_500, "{counts:?}");
 }
 
@@ -205,7 +290,7 @@ fn damaged_texts_give_each_refusal_often() {
 #[test]
 fn damaged_sizes() {
     let rng = &mut Rng::new(9);
-    let mut counts = [0usize; 10];
+    let mut counts = [0usize; 12];
     let mut one_too_few = 0;
     for _ in 0..4_000 {
         let text = damaged(rng);
@@ -225,6 +310,74 @@ fn damaged_sizes() {
     let often = |&number: &usize| counts[number] >= 100;
     assert!([1, 2, 9].iter().all(often), "{counts:?}");
     assert!(one_too_few >= 100, "{one_too_few}");
+}
+
+/// The fault of the refused line, if that is an M line, as its text shows it.
+fn mask_fault(text: &[u8], number: u8, line: u64) -> Option<&'static str> {
+    let lines: Vec<&[u8]> = text.split(|&byte| byte == b'\n').collect();
+    let at = line.checked_sub(1)? as usize;
+    let fields: Vec<&[u8]> = lines[at].split(|&byte| byte == b'\t').collect();
+    if fields[0] != b"M" {
+        return None;
+    }
+    let field = fields.get(1).copied().unwrap_or_default();
+    let digits = std::str::from_utf8(field).unwrap_or_default();
+    Some(match number {
+        1 => form_fault(fields.len(), digits),
+        2 => range_fault(workers(lines[0]), digits),
+        3 if at == 0 => "the first line",
+        3 => match lines[at - 1][0] {
+            b'W' => "after the W line",
+            b'M' => "after an M line",
+            _ => "after an order line",
+        },
+        11 => "0",
+        _ => "a refusal that no M line has",
+    })
+}
+
+fn form_fault(fields: usize, digits: &str) -> &'static str {
+    match digits.as_bytes() {
+        _ if fields == 1 => "no field",
+        _ if fields > 2 => "two fields",
+        [] => "an empty field",
+        [b'0', b'x', ..] => "hexadecimal",
+        [b'0', ..] => "a leading zero",
+        [b'-', ..] => "a minus",
+        _ => "another form",
+    }
+}
+
+fn range_fault(workers: u32, digits: &str) -> &'static str {
+    match digits.parse::<u128>() {
+        Ok(mask) if mask == 1 << workers => "the first worker that there is not",
+        Ok(mask) if mask >> 64 == 1 => "a sound mask in 64 bits",
+        Err(_) if digits.len() >= 30_000 => "30,000 digits",
+        _ => "another number out of range",
+    }
+}
+
+/// What a sound W line says.
+fn workers(line: &[u8]) -> u32 {
+    let digits = line[2..].iter().take_while(|byte| byte.is_ascii_digit());
+    digits.fold(0, |value, digit| 10 * value + u32::from(digit - b'0'))
+}
+
+/// Damaged M lines: each fault that one can have is often the first of its text.
+#[test]
+fn damaged_masks() {
+    let rng = &mut Rng::new(15);
+    let mut seen: BTreeMap<&str, usize> = BTreeMap::new();
+    for _ in 0..8_000 {
+        let text = damaged(rng);
+        if let Err(refusal) = check(&text) {
+            if let Some(fault) = mask_fault(&text, refusal.number, refusal.line) {
+                *seen.entry(fault).or_default() += 1;
+            }
+        }
+    }
+    assert_eq!(seen.len(), 16, "{seen:?}");
+    assert!(seen.values().all(|&count| count >= 10), "{seen:?}");
 }
 
 /// Lines beyond the first few are refused too, not only the beginning.
@@ -264,22 +417,33 @@ fn samples_are_small() {
 #[test]
 fn three_hundred_samples_hit_what_matters() {
     let mut seen = Seen::default();
-    let mut refusals = [0usize; 10];
+    let mut refusals = [0usize; 12];
     for seed in 0..300 {
         match check(&sample(seed)) {
             Ok(plan) => {
                 let machine = played(&plan);
                 seen.add_run(&plan, &machine);
                 seen.add_sizes(&plan, &machine);
+                seen.add_masks(&plan);
             }
             Err(refusal) => refusals[usize::from(refusal.number)] += 1,
         }
     }
     seen.each_at_least(8);
     let met = |&number: &usize| refusals[number] >= 4;
-    assert!([1, 2, 3, 4, 5, 9].iter().all(met), "{refusals:?}");
+    assert!([1, 2, 3, 4, 5, 9, 11].iter().all(met), "{refusals:?}");
     let refused: usize = refusals.iter().sum();
-    assert!((30..=75).contains(&refused), "{refused}");
+    assert!((40..=95).contains(&refused), "{refused}");
+}
+
+/// Of any row of samples at least one in three is accepted with an M line.
+#[test]
+fn samples_with_masks() {
+    let tied = |&seed: &u64| check(&sample(seed)).is_ok_and(|plan| plan.has_masks());
+    for first in (0..3_000).step_by(300) {
+        let count = (first..first + 300).filter(tied).count();
+        assert!((100..=180).contains(&count), "{count} from seed {first}");
+    }
 }
 
 /// Of any row of samples at least two in five have a W line of the second form.

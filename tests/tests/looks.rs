@@ -24,6 +24,8 @@ fn accepted_texts() {
         ("W\t32\t64\t16\n", 11),
         ("W\t2\nT\ta\t0\nP\t1\t3\nP\t0\t5\nP\t1\t4\nP\t0\t2\n", 34),
         ("W\t2\nT\t0123456789abcdef\t1000\tr0\tw65535\n", 38),
+        ("W\t32\nT\ta\t0\nM\t4294967295\n", 24),
+        ("W\t2\nT\ta\t0\nM\t1\nT\tb\t0\nM\t3\nR\t1\n", 28),
     ] {
         assert_eq!(judged(text.as_bytes()), ((0, 0), length, length), "{text}");
     }
@@ -59,6 +61,16 @@ fn refused_texts() {
         ("W\t1\nR\t1\nT\ta\t0\nR\t1\n", (3, 3), 8, 14),
         ("W\t1\nR\t1\nR\t0\nR\t0\n", (2, 3), 8, 12),
         ("W\t1\nP\t1\t18446744073709551616\nX\n", (2, 2), 4, 29),
+        // M lines: of another form, in another place, out of range, of nobody
+        ("W\t2\nT\ta\t0\nM\nR\t1\n", (1, 3), 10, 12),
+        ("W\t2\nT\ta\t0\nM\t\nR\t1\n", (1, 3), 10, 13),
+        ("W\t2\nT\ta\t0\nM\t1\t1\nR\t1\n", (1, 3), 10, 16),
+        ("W\t2\nT\ta\t0\nM\t1", (1, 3), 10, 13),
+        ("M\t1\nW\t2\n", (3, 1), 0, 4),
+        ("W\t2\nM\t1\nT\ta\t0\n", (3, 2), 4, 8),
+        ("W\t2\nT\ta\t0\nM\t1\nM\t1\nR\t1\n", (3, 4), 14, 18),
+        ("W\t2\nT\ta\t0\nM\t4\nR\t1\n", (2, 3), 10, 14),
+        ("W\t2\nT\ta\t0\nM\t0\nR\t1\n", (11, 3), 10, 14),
     ] {
         assert_eq!(judged(text.as_bytes()), (refused, least, most), "{text:?}");
     }
@@ -108,7 +120,9 @@ fn a_long_line() {
 /// line that ends with the text.
 #[test]
 fn every_prefix() {
-    let text = lines(&["W 3 10 8", "T a-1 10 r5 w65535", "P 2 1", "R 1", "S 1 1"]);
+    let orders = ["P 2 1", "R 1", "S 1 1"];
+    let tasks = ["T a-1 10 r5 w65535", "M 5"];
+    let text = lines(&[&["W 3 10 8"], &tasks[..], &orders].concat());
     let mut start = 0;
     for length in 1..=text.len() {
         let (refused, least, most) = judged(&text[..length]);
@@ -159,6 +173,8 @@ fn printed() {
     assert_eq!(print("W\t2\t64\t8\nR\t100\n"), "A\t15\n");
     assert_eq!(print(""), "X\t3\t1\n");
     assert_eq!(print("W\t2\nR\t0\nX\n"), "X\t2\t2\n");
+    assert_eq!(print("W\t2\nT\ta\t0\nM\t3\n"), "A\t14\n");
+    assert_eq!(print("W\t2\nT\ta\t0\nM\t0\n"), "X\t11\t3\n");
     assert_eq!(answer_bytes(&sized(65_536)), b"A\t65536\n");
     assert_eq!(answer_bytes(&sized(65_537)), b"X\t6\t0\n");
 }

@@ -4,7 +4,8 @@
 use second::lock::{Handed, Lock, Look};
 use second::machine::{Machine, Place, State};
 use second::plan::{check, Form, Plan};
-use second::random::{plan, Rng, Shape};
+use second::random::{plan, with_masks, without_masks, Rng, Shape};
+use second::run;
 
 /// A wait, from the registering pick on.
 #[derive(Clone, Copy)]
@@ -21,6 +22,14 @@ struct Giving {
     by: usize,
     let_in: usize,
     pick: u64,
+}
+
+/// What an owner does at the serving place.
+#[derive(Clone, Copy)]
+enum Choice {
+    Serves { waiter: usize, task: usize },
+    Takes { task: usize },
+    TakesNone,
 }
 
 /// A machine and what was seen of it from outside.
@@ -65,7 +74,12 @@ impl<'p> Watch<'p> {
         let states = self.states();
         self.no_flag_repeats(worker);
         let owner = self.machine.owner;
+        let ready: Vec<usize> = self.machine.ready.iter().copied().collect();
+        let choice = (place == Place::Serve).then(|| self.choice(worker, &ready));
         self.machine.step(worker);
+        if let Some(choice) = choice {
+            self.follow_choice(worker, choice, ready);
+        }
         if self.machine.lock.tail > tail {
             assert_eq!(owner, Some(worker), "only an owner hands over");
             self.follow_hand_over(worker, tail);
@@ -89,6 +103,49 @@ impl<'p> Watch<'p> {
                 0
             );
         }
+    }
+
+    /// Whether a worker may run a task: bit i of its mask is worker i.
+    fn permits(&self, task: usize, worker: usize) -> bool {
+        let mask = self.plan.tasks[task].mask;
+        mask.is_none_or(|mask| (mask >> worker) % 2 == 1)
+    }
+
+    /// The first ready task that the front waiter may run, while fewer than W - 1 were
+    /// served; else the first that the owner may run.
+    fn choice(&self, owner: usize, ready: &[usize]) -> Choice {
+        let first = |worker| ready.iter().find(|&&task| self.permits(task, worker));
+        if self.machine.workers[owner].served as u64 + 1 < self.plan.workers {
+            if let Some(waiter) = self.waits_with(self.machine.lock.tail) {
+                if let Some(&task) = first(waiter) {
+                    return Choice::Serves { waiter, task };
+                }
+            }
+        }
+        first(owner).map_or(Choice::TakesNone, |&task| Choice::Takes { task })
+    }
+
+    /// The pick did what was to be done, and the other ready tasks keep their order.
+    fn follow_choice(&self, owner: usize, choice: Choice, mut ready: Vec<usize>) {
+        let machine = &self.machine;
+        let (place, chosen) = match choice {
+            Choice::Serves { waiter, task } => {
+                let cell = (machine.lock.tail, task as u64);
+                assert_eq!(machine.lock.cells[waiter], cell);
+                (Place::HandOver, Some((task, State::Held)))
+            }
+            Choice::Takes { task } => {
+                assert_eq!(machine.workers[owner].task, Some(task));
+                (Place::Leave, Some((task, State::Run)))
+            }
+            Choice::TakesNone => (Place::Leave, None),
+        };
+        assert_eq!(machine.workers[owner].place, place);
+        if let Some((task, state)) = chosen {
+            assert_eq!(machine.tasks[task].state, state);
+            ready.retain(|&other| other != task);
+        }
+        assert_eq!(machine.ready, ready);
     }
 
     fn waits_with(&self, ticket: u64) -> Option<usize> {
@@ -178,6 +235,7 @@ impl<'p> Watch<'p> {
             match new {
                 State::Run => {
                     self.receipts[task].push(worker);
+                    assert!(self.permits(task, worker), "{worker} runs {task}");
                     self.taken[task] = place == Place::Serve;
                     self.earlier_conflicts_over(task);
                 }
@@ -438,7 +496,17 @@ fn finishing_figure(plan: &Plan, regular: u64) -> u64 {
         .map(|task| task.accesses.len() as u64)
         .sum();
     let cost: u64 = plan.tasks.iter().map(|task| task.cost).sum();
-    regular * (4 * plan.workers + 8) * (7 * tasks + 7 * accesses + cost)
+    regular * factor(plan) * (7 * tasks + 7 * accesses + cost)
+}
+
+/// With M lines a task may wait until one worker's turn has come.
+fn factor(plan: &Plan) -> u64 {
+    let workers = plan.workers;
+    if plan.has_masks() {
+        3 * workers * workers + 7 * workers + 8
+    } else {
+        4 * workers + 8
+    }
 }
 
 /// The plan with this ring and these queues.
@@ -501,14 +569,33 @@ fn lists(rng: &mut Rng, workers: u64) -> [List; 5] {
 fn play_many(seed: u64, shape: Shape, plans: usize, most: u64) {
     let rng = &mut Rng::new(seed);
     let mut finished = 0;
+    // Runs in which masks made a difference, by the ways in which they can.
+    let mut tied = [0; 4];
     for _ in 0..plans {
         let plan = random_plan(rng, shape);
         for list in lists(rng, plan.workers) {
             let plan = sized(&plan, ring(rng, plan.workers), capacity(rng));
-            finished += usize::from(play(rng, &plan, list, most).finished());
+            let machine = play(rng, &plan, list, most);
+            finished += usize::from(machine.finished());
+            let times = differences(&machine);
+            assert!(times == [0; 4] || plan.has_masks());
+            (0..4).for_each(|way| tied[way] += usize::from(times[way] > 0));
         }
     }
     assert!(finished >= 4 * plans, "{finished} of {}", 5 * plans);
+    assert!(tied.iter().all(|&runs| runs >= plans / 4), "{tied:?}");
+}
+
+/// How often a task was served or taken past the first ready one, a waiter was not
+/// served, and an owner took none of the ready tasks.
+fn differences(machine: &Machine) -> [u64; 4] {
+    let counters = machine.counters;
+    [
+        counters.served_past,
+        counters.taken_past,
+        counters.stopped_serving,
+        counters.left_ready,
+    ]
 }
 
 #[test]
@@ -525,9 +612,13 @@ fn medium_plans() {
 #[test]
 fn large_plans() {
     let rng = &mut Rng::new(13);
-    for _ in 0..2 {
-        let mut plan = random_plan(rng, Shape::Large);
-        plan.tasks.truncate(40);
+    let large = |rng: &mut Rng| plan(rng, Shape::Large);
+    let free = (without_masks(rng, large), 40);
+    let tied = (with_masks(rng, large), 10);
+    for (text, tasks) in [free, tied] {
+        let mut plan = check(&text).unwrap();
+        plan.tasks.truncate(tasks);
+        assert_eq!(plan.has_masks(), tasks == 10);
         plan.tasks.iter_mut().for_each(|task| task.cost %= 20);
         for list in [List::RoundRobin, List::Hostile(50), List::Random] {
             for (slots, capacity) in [(64, 8), (32, 1), (33, 16)] {
@@ -536,6 +627,43 @@ fn large_plans() {
             }
         }
     }
+}
+
+/// One task that one worker alone may run, in rounds, for every number of workers and
+/// each of them: finished within the figure of plans with M lines.
+#[test]
+fn one_task_for_one_worker() {
+    for workers in 1..=32 {
+        for worker in 0..workers {
+            let mask = 1u64 << worker;
+            let text = format!("W\t{workers}\nT\ta\t0\nM\t{mask}\nR\t1000000\n");
+            let plan = check(text.as_bytes()).unwrap();
+            let machine = run::play(&plan, finishing_figure(&plan, workers));
+            assert!(machine.finished(), "{workers} workers, {worker}");
+            assert_eq!(machine.tasks[0].worker, Some(worker as usize));
+        }
+    }
+}
+
+/// The figure of plans without M lines would not do for them: with 29 workers and one
+/// task that worker 0 alone may run, 872 rounds and one pick are needed, where that
+/// figure says 868 rounds.
+#[test]
+fn picks_that_a_mask_needs() {
+    let picks = |mask: &str| {
+        let text = format!("W\t29\nT\ta\t0\n{mask}R\t1000000\n");
+        let plan = check(text.as_bytes()).unwrap();
+        let machine = run::play(&plan, u64::MAX);
+        assert!(machine.finished());
+        (machine.picks, finishing_figure(&plan, 29))
+    };
+    let rounds = |rounds: u64| 29 * rounds;
+    let (needed, most) = picks("M\t1\n");
+    assert_eq!(needed, rounds(872) + 1);
+    assert_eq!(most, rounds(7 * (3 * 29 * 29 + 7 * 29 + 8)));
+    let (free, figure) = picks("");
+    assert_eq!(figure, rounds(868));
+    assert!(free <= figure && figure < needed);
 }
 
 /// Rings of exactly as many slots as workers, over several laps.

@@ -4,7 +4,7 @@
 use second::plan::{check, Access, Form, Label, Order, Plan, Refusal, Task};
 use second::random::{damaged, plan, sample, Rng, Shape};
 
-const ASKED_IN_ORDER: [u8; 6] = [1, 3, 2, 4, 5, 9];
+const ASKED_IN_ORDER: [u8; 7] = [1, 3, 2, 4, 5, 9, 11];
 
 fn split(text: &[u8]) -> Vec<(usize, Vec<u8>, bool)> {
     let mut found = Vec::new();
@@ -50,7 +50,7 @@ fn well_formed(fields: &[&[u8]]) -> bool {
     let numbers = |count: usize| fields.len() == count && fields[1..].iter().all(|f| is_number(f));
     match fields[0] {
         b"W" => numbers(2) || numbers(4),
-        b"R" => numbers(2),
+        b"M" | b"R" => numbers(2),
         b"P" | b"S" => numbers(3),
         b"T" => {
             fields.len() >= 3
@@ -65,6 +65,8 @@ fn well_formed(fields: &[&[u8]]) -> bool {
 /// What was read before the line.
 struct Before {
     line: usize,
+    /// Whether the line before is a T line.
+    after_task: bool,
     workers: u128,
     tasks: usize,
     orders: usize,
@@ -75,7 +77,11 @@ fn has_fault(number: u8, fields: &[&[u8]], ended: bool, before: &Before) -> bool
     let within = |field: &[u8], low: u128, high: u128| (low..=high).contains(&value(field));
     match number {
         1 => !ended || !well_formed(fields),
-        3 => (kind == b"W") != (before.line == 1) || (kind == b"T" && before.orders > 0),
+        3 => {
+            (kind == b"W") != (before.line == 1)
+                || (kind == b"T" && before.orders > 0)
+                || (kind == b"M" && !before.after_task)
+        }
         2 => match kind {
             b"W" => {
                 let ends = [(1, 32), (1, 64), (1, 16)];
@@ -86,6 +92,7 @@ fn has_fault(number: u8, fields: &[&[u8]], ended: bool, before: &Before) -> bool
                 !within(fields[2], 0, 1_000)
                     || fields[3..].iter().any(|f| !within(&f[1..], 0, 65_535))
             }
+            b"M" => value(fields[1]) >= 1 << before.workers,
             b"P" => value(fields[1]) >= before.workers || !within(fields[2], 1, 4_096),
             b"R" => !within(fields[1], 1, 1_000_000),
             _ => value(fields[1]) >= 1 << 64 || !within(fields[2], 1, 1_000_000),
@@ -99,7 +106,8 @@ fn has_fault(number: u8, fields: &[&[u8]], ended: bool, before: &Before) -> bool
             addresses.sort();
             kind == b"T" && addresses.windows(2).any(|pair| pair[0] == pair[1])
         }
-        _ => kind == b"W" && fields.len() == 4 && value(fields[2]) < value(fields[1]),
+        9 => kind == b"W" && fields.len() == 4 && value(fields[2]) < value(fields[1]),
+        _ => kind == b"M" && fields[1] == b"0",
     }
 }
 
@@ -116,10 +124,12 @@ fn slow_check(text: &[u8]) -> Result<Plan, Refusal> {
         tasks: Vec::new(),
         orders: Vec::new(),
     };
+    let mut after_task = false;
     for (index, (start, line, ended)) in split(text).iter().enumerate() {
         let fields: Vec<&[u8]> = line.split(|&byte| byte == b'\t').collect();
         let before = Before {
             line: index + 1,
+            after_task,
             workers: u128::from(plan.workers),
             tasks: plan.tasks.len(),
             orders: plan.orders.len(),
@@ -132,6 +142,7 @@ fn slow_check(text: &[u8]) -> Result<Plan, Refusal> {
                 });
             }
         }
+        after_task = fields[0] == b"T";
         note(&mut plan, &fields, *start);
     }
     Ok(plan)
@@ -160,7 +171,9 @@ fn note(plan: &mut Plan, fields: &[&[u8]], start: usize) {
                     address: value(&f[1..]) as u64,
                 })
                 .collect(),
+            mask: None,
         }),
+        b"M" => plan.tasks.last_mut().unwrap().mask = Some(number(1)),
         b"P" => plan.orders.push(Order::Repeat {
             worker: number(1),
             times: number(2),
@@ -203,7 +216,7 @@ fn sound_texts() {
 /// Every text of up to six bytes over a few that matter.
 #[test]
 fn all_short_texts() {
-    const BYTES: [u8; 6] = *b"WR\t\n01";
+    const BYTES: [u8; 7] = *b"WRM\t\n01";
     for length in 0..=6u32 {
         for code in 0..BYTES.len().pow(length) {
             let mut rest = code;
@@ -212,8 +225,14 @@ fn all_short_texts() {
                 short.push(BYTES[rest % BYTES.len()]);
                 rest /= BYTES.len();
             }
-            for before in [&b""[..], b"W\t1\n", b"W\t10\t"] {
-                compare(&[before, &short].concat());
+            for before in [
+                "",
+                "W\t1\n",
+                "W\t10\t",
+                "W\t1\nT\ta\t0\n",
+                "W\t1\nT\ta\t0\nM\t1\n",
+            ] {
+                compare(&[before.as_bytes(), &short].concat());
             }
         }
     }
@@ -236,11 +255,29 @@ fn all_sizes() {
     assert_eq!(accepted, rings * 16);
 }
 
+/// Every mask of a few workers, and those next to its ends.
+#[test]
+fn all_masks() {
+    for workers in 1..=6u64 {
+        let mut accepted = 0;
+        for mask in 0..=4u64 << workers {
+            for behind in ["", "M\t1\n", "M\t0\n", "T\tb\t0\nM\t1\n", "R\t1\nM\t1\n"] {
+                let text = format!("W\t{workers}\nT\ta\t0\nM\t{mask}\n{behind}");
+                compare(text.as_bytes());
+                accepted += u64::from(check(text.as_bytes()).is_ok());
+            }
+        }
+        assert_eq!(accepted, 2 * ((1 << workers) - 1));
+    }
+}
+
 /// Every byte value at every position of a sound text, put in or in place.
 #[test]
 fn every_single_byte_change() {
     for first in ["W 3", "W 3 10 8"] {
-        let text = second::text::lines(&[first, "T a-1 10 r5 w65535", "P 2 1", "R 1", "S 1 1"]);
+        let orders = ["P 2 1", "R 1", "S 1 1"];
+        let tasks = ["T a-1 10 r5 w65535", "M 5", "T b 0"];
+        let text = second::text::lines(&[&[first], &tasks[..], &orders].concat());
         for at in 0..=text.len() {
             for byte in 0..=255u8 {
                 let mut inserted = text.clone();

@@ -109,7 +109,7 @@ fn forms_of_later_lines() {
         "S  1",
         "",
         "E 1",
-        "M 1",
+        "m 1",
     ] {
         assert_eq!(second_line(line), 1, "{line}");
     }
@@ -142,6 +142,145 @@ fn places() {
     // Form before place.
     assert_eq!(refused(&["W 1", "R 1", "T a"]), (1, 3));
     assert_eq!(refused(&["W 1", "W x"]), (1, 2));
+}
+
+#[test]
+fn forms_of_a_mask() {
+    for line in [
+        "M", "M ", "M 1 ", "M  1", "M 1 1", "M 3 0", "M 01", "M 00", "M -1", "M -0", "M +1",
+        "M 0x1", "M 1x", "M x", "M r1", "M 1.0", "M 1,2", "MM 1", "m 1", "M1",
+    ] {
+        assert_eq!(refused(&["W 2", "T a 0", line]), (1, 3), "{line}");
+    }
+    for line in [
+        "M\t1\r\n", "M\t1 \n", "M\t 1\n", "M 1\n", "M\t1\0\n", "M\t1",
+    ] {
+        let text = format!("W\t2\nT\ta\t0\n{line}");
+        assert_eq!(refused_text(text.as_bytes()), (1, 3), "{line:?}");
+    }
+}
+
+/// Directly after a T line, and nowhere else.
+#[test]
+fn places_of_a_mask() {
+    assert_eq!(refused(&["M 1"]), (3, 1));
+    assert_eq!(refused(&["M 1", "W 2", "T a 0"]), (3, 1));
+    assert_eq!(refused(&["W 2", "M 1"]), (3, 2));
+    assert_eq!(refused(&["W 2 2 1", "M 1", "T a 0"]), (3, 2));
+    assert_eq!(refused(&["W 2", "T a 0", "M 1", "M 1"]), (3, 4));
+    assert_eq!(refused(&["W 2", "T a 0", "T b 0", "M 1", "M 2"]), (3, 5));
+    for order in ["P 0 1", "R 1", "S 0 1"] {
+        assert_eq!(refused(&["W 2", order, "M 1"]), (3, 3));
+        assert_eq!(refused(&["W 2", "T a 0", order, "M 1"]), (3, 4));
+        assert_eq!(refused(&["W 2", "T a 0", "M 1", order, "M 1"]), (3, 5));
+        assert!(accepted(&["W 2", "T a 0", "M 1", order]));
+        assert_eq!(refused(&["W 2", "T a 0", "M 1", order, "T b 0"]), (3, 5));
+    }
+    let both = ["W 2", "T a 0", "M 1", "T b 0", "T c 0 r5", "M 3", "R 1"];
+    assert!(accepted(&both));
+    assert!(accepted(&both[..3]));
+    // A W line again, behind an M line.
+    assert_eq!(refused(&["W 2", "T a 0", "M 1", "W 2"]), (3, 4));
+}
+
+/// Bit i is worker i: for each number of workers, all of them, the last alone, and a
+/// worker that there is not, also where a mask of few bits would lose it.
+#[test]
+fn workers_of_a_mask() {
+    for workers in 1..=32u32 {
+        let first = format!("W {workers}");
+        let with = |mask: &str| {
+            let line = format!("M {mask}");
+            let read = check(&lines(&[&first, "T a 0", &line]));
+            read.map(|plan| plan.tasks[0].mask.unwrap())
+                .map_err(|refusal| (refusal.number, refusal.line))
+        };
+        let above = 1u128 << workers;
+        for mask in [1, above / 2, above - 1, above / 2 + 1] {
+            let mask = mask.min(above - 1);
+            assert_eq!(with(&mask.to_string()), Ok(mask as u64));
+        }
+        for mask in [
+            above,
+            above + 1,
+            2 * above - 1,
+            4 * above,
+            1 << 32,
+            (1 << 32) + 1,
+            1 << 63,
+            1 << 64,
+            (1 << 64) + 1,
+            u128::MAX,
+        ] {
+            assert_eq!(with(&mask.to_string()), Err((2, 3)), "{workers}, {mask}");
+        }
+        for digit in ["1", "9"] {
+            assert_eq!(with(&digit.repeat(30_000)), Err((2, 3)));
+        }
+        // 2^128 and 2^128 + 1
+        for last in ["6", "7"] {
+            let mask = format!("34028236692093846346337460743176821145{last}");
+            assert_eq!(with(&mask), Err((2, 3)));
+        }
+        assert_eq!(with("0"), Err((11, 3)));
+    }
+}
+
+/// Each pair of faults in one M line: form, place, range, a mask of 0. A mask is never
+/// out of its range and 0.
+#[test]
+fn order_in_a_mask_line() {
+    let long = "9".repeat(30_000);
+    let behind_task = |line: &str| refused(&["W 2", "T a 0", line]);
+    let misplaced = |line: &str| {
+        let places = [
+            refused(&[line]).0,
+            refused(&["W 2", line]).0,
+            refused(&["W 2", "T a 0", "R 1", line]).0,
+            refused(&["W 2", "T a 0", "M 3", line]).0,
+        ];
+        assert!(places.iter().all(|&number| number == places[0]), "{line}");
+        places[0]
+    };
+    // 1 and 3
+    for line in ["M", "M ", "M 1 1", "M 01", "M -1", "M 0x1"] {
+        assert_eq!(misplaced(line), 1, "{line}");
+    }
+    // 1 and 2, 1 and 11; then with 3 too
+    for line in [
+        "M 4 1", "M 04", "M 4 ", "M 4x", "M 00", "M 0 ", "M 0 1", "M -0",
+    ] {
+        assert_eq!(behind_task(line), (1, 3), "{line}");
+        assert_eq!(misplaced(line), 1, "{line}");
+    }
+    assert_eq!(behind_task(&format!("M {long}x")), (1, 3));
+    assert_eq!(behind_task(&format!("M {long} 1")), (1, 3));
+    // 3 and 2, 3 and 11
+    for line in ["M 4", "M 5", "M 18446744073709551616", "M 0"] {
+        assert_eq!(misplaced(line), 3, "{line}");
+    }
+    assert_eq!(misplaced(&format!("M {long}")), 3);
+    // alone
+    assert_eq!(misplaced("M 3"), 3);
+    assert_eq!(behind_task("M 4"), (2, 3));
+    assert_eq!(behind_task("M 0"), (11, 3));
+    assert!(accepted(&["W 2", "T a 0", "M 3"]));
+}
+
+/// An M line among faulty lines, and behind a T line that is at fault itself.
+#[test]
+fn the_first_faulty_line_with_masks() {
+    assert_eq!(refused(&["W 2", "T a 0", "M 0", "X"]), (11, 3));
+    assert_eq!(refused(&["W 2", "T a 0", "M 0", "M 1"]), (11, 3));
+    assert_eq!(refused(&["W 2", "T a 0", "M 4", "T b 0", "M 0"]), (2, 3));
+    assert_eq!(refused(&["W 2", "M 0", "T b 0", "M 4"]), (3, 2));
+    assert_eq!(refused(&["W 2", "T a 1001", "M 0"]), (2, 2));
+    assert_eq!(refused(&["W 2", "T a 0 r5 r5", "M 0"]), (5, 2));
+    assert_eq!(refused(&["W 0", "T a 0", "M 0"]), (2, 1));
+    assert_eq!(refused(&["W 4 3 8", "T a 0", "M 0"]), (9, 1));
+    assert_eq!(refused(&["W 2", "R 0", "M 0"]), (2, 2));
+    assert_eq!(refused(&["W 2", "T a 0", "M 1", "T b 0", "M 0"]), (11, 5));
+    assert_eq!(refused_text(b"W\t2\nT\ta\t0\nM\t0\nR\t1"), (11, 3));
 }
 
 /// A W line of either form again, after one of either form.
@@ -301,6 +440,11 @@ fn the_129th_task() {
     assert_eq!(refused(&["T a 0 r5 r5"]), Err((4, 130)));
     assert_eq!(refused(&["R 1", "T a 0"]), Err((3, 131)));
     assert_eq!(refused(&["T a 0", "x"]), Err((4, 130)));
+    // M lines are no tasks.
+    assert_eq!(refused(&["M 1"]), Ok(128));
+    assert_eq!(refused(&["M 1", "T a 0"]), Err((4, 131)));
+    assert_eq!(refused(&["M 0", "T a 0"]), Err((11, 130)));
+    assert_eq!(refused(&["T a 0", "M 0"]), Err((4, 130)));
 }
 
 #[test]
@@ -372,4 +516,8 @@ fn printed_refusals() {
         b"X\t5\t2\n"
     );
     assert_eq!(answer_bytes(&lines(&["W 4 3 8"]), 0), b"X\t9\t1\n");
+    assert_eq!(
+        answer_bytes(&lines(&["W 4", "T a 0", "M 0"]), 0),
+        b"X\t11\t3\n"
+    );
 }

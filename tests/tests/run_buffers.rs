@@ -42,7 +42,7 @@ fn checked(
 fn a_run() {
     let expected = Ok(Reported {
         picks: 14,
-        length: 45,
+        length: 47,
     });
     assert_eq!(checked(&listing(), u64::MAX, STORE, 100), expected);
     assert_eq!(checked(&listing(), u64::MAX, STORE + 3, 1_000), expected);
@@ -51,10 +51,10 @@ fn a_run() {
 #[test]
 fn output_of_the_exact_length() {
     assert_eq!(
-        checked(&listing(), u64::MAX, STORE, 45).map(|r| r.length),
-        Ok(45)
+        checked(&listing(), u64::MAX, STORE, 47).map(|r| r.length),
+        Ok(47)
     );
-    assert_eq!(checked(&listing(), u64::MAX, STORE, 44), refusal(8, 0));
+    assert_eq!(checked(&listing(), u64::MAX, STORE, 46), refusal(8, 0));
     assert_eq!(checked(&listing(), u64::MAX, STORE, 0), refusal(8, 0));
 }
 
@@ -83,6 +83,11 @@ fn order_of_refusals() {
     assert_eq!(checked(&few_slots, u64::MAX, STORE, 0), refusal(9, 1));
     let sized = lines(&["W 4 4 8"]);
     assert_eq!(checked(&sized, u64::MAX, STORE, 0), refusal(8, 0));
+    let nobody = lines(&["W 4", "T a 0", "M 0"]);
+    assert_eq!(checked(&nobody, u64::MAX, STORE - 1, 0), refusal(7, 0));
+    assert_eq!(checked(&nobody, u64::MAX, STORE, 0), refusal(11, 3));
+    let tied = lines(&["W 4", "T a 0", "M 5"]);
+    assert_eq!(checked(&tied, u64::MAX, STORE, 0), refusal(8, 0));
 }
 
 #[test]
@@ -90,11 +95,11 @@ fn limits() {
     let report = |limit: u64| String::from_utf8(answer_bytes(&listing(), limit)).unwrap();
     assert_eq!(
         report(0),
-        "E\topen\t0\nT\t0\ta\tnew\t-\t-\t-\t-\nL\t64\t65\t-\n"
+        "E\topen\t0\t2\nT\t0\ta\tnew\t-\t-\t-\t-\nL\t64\t65\t-\n"
     );
     assert_eq!(
         report(13),
-        "E\topen\t13\nT\t0\ta\trun\t0\t13\t-\t1\nL\t66\t66\t1\n"
+        "E\topen\t13\t2\nT\t0\ta\trun\t0\t13\t-\t1\nL\t66\t66\t1\n"
     );
     assert_eq!(report(14), report(u64::MAX));
     assert_eq!(report(15), report(u64::MAX));
@@ -104,7 +109,7 @@ fn limits() {
     }
     assert_eq!(
         answer_bytes(b"W\t1\nR\t5\n", 0),
-        b"E\tfinished\t0\nL\t64\t65\t-\n"
+        b"E\tfinished\t0\t0\nL\t64\t65\t-\n"
     );
 }
 

@@ -37,8 +37,8 @@ fn start_values() {
     for slots in 1..=64u64 {
         let first = format!("W 1 {slots} 8");
         let ends = format!("L {slots} {} -\n", slots + 1);
-        assert_eq!(shown(&[&first]), format!("E finished 0\n{ends}"));
-        let new = format!("E open 0\nT 0 a new - - - -\n{ends}");
+        assert_eq!(shown(&[&first]), format!("E finished 0 0\n{ends}"));
+        let new = format!("E open 0 1\nT 0 a new - - - -\n{ends}");
         assert_eq!(shown(&[&first, "T a 0"]), new);
         let lock = played(&[&first]).lock;
         assert_eq!(lock.wait, vec![slots; slots as usize]);
@@ -52,7 +52,7 @@ fn start_values() {
 fn listing_in_two_slots() {
     let orders = ["T a 0", "P 1 3", "P 0 5", "P 1 4", "P 0 2"];
     let plan = [&["W 2 2 1"], &orders[..]].concat();
-    let report = "E finished 14\nT 0 a over 0 13 14 1\nL 4 4 1\n";
+    let report = "E finished 14 2\nT 0 a over 0 13 14 1\nL 4 4 1\n";
     assert_eq!(shown(&plan), report);
     let lock = played(&plan).lock;
     assert_eq!(lock.registration, [2 + 1, 3]);
@@ -81,7 +81,7 @@ fn registration_of_the_lap_before() {
     let plan = ["W 2 2 8", "T a 0", "P 1 7", "P 0 3", "P 0 3", "P 0 3"];
     let lock = played(&plan).lock;
     assert_eq!((lock.tail, lock.registration[0]), (4, 2 + 1));
-    let report = "E open 16\nT 0 a run 0 16 - 0\nL 4 4 0\n";
+    let report = "E open 16 2\nT 0 a run 0 16 - 0\nL 4 4 0\n";
     assert_eq!(shown(&plan), report);
 }
 

@@ -2,8 +2,10 @@
 use mathlib.Core.List.{List}
 use Prim.Native.Nat.{ℕ}
 use Rattle.runs.specs.Every.{every}
+use Rattle.runs.specs.Sums.{sum}
 use Rattle.text.specs.Text.{bytes, allOf, split, valueAfter, numberOf, digitsBefore, decimal, line}
-use Rattle.plan.specs.Line.{repeats, accessOf, lineBy, lineOfFields}
+use Rattle.plan.specs.Plan.{maskLast}
+use Rattle.plan.specs.Line.{repeats, endsUnmasked, accessOf, lineBy, lineOfFields}
 use Rattle.plan.specs.Reading.{firstRefusal, readLines, reading}
 use Rattle.plan.specs.Orders.{seededPicks, picksOfAll}
 use Rattle.machine.specs.Whereabouts.{owner}
@@ -13,5 +15,5 @@ use Rattle.bench.specs.Answer.{printedFor, printed}
 
 unfoldable pub computed : List ℕ → List ℕ
 unfolding bytes every allOf split valueAfter numberOf digitsBefore decimal line accessOf lineBy lineOfFields repeats
-    firstRefusal readLines reading seededPicks picksOfAll computing owner taskLines report printedFor
+    maskLast endsUnmasked sum firstRefusal readLines reading seededPicks picksOfAll computing owner taskLines report printedFor
 computed text = printed text

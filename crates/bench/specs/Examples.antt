@@ -50,12 +50,12 @@ abbrev pub starred : List Example
 starred =
     prints "" "X\t3\t1\n"
     ∷ prints "W\t0\n" "X\t2\t1\n"
-    ∷ prints "W\t1\n" "E\tfinished\t0\nL\t64\t65\t-\n"
-    ∷ prints "W\t1\nT\ta\t0\n" "E\topen\t0\nT\t0\ta\tnew\t-\t-\t-\t-\nL\t64\t65\t-\n"
-    ∷ prints "W\t1\nT\ta\t0\nR\t20\n" "E\tfinished\t10\nT\t0\ta\tover\t0\t8\t10\t0\nL\t65\t66\t-\n"
-    ∷ prints "W\t2\nT\ta\t0\nP\t1\t3\nP\t0\t5\nP\t1\t4\nP\t0\t2\n" "E\tfinished\t14\nT\t0\ta\tover\t0\t13\t14\t1\nL\t66\t66\t1\n"
-    ∷ prints "W\t2\nT\ta\t0\nP\t1\t3\n" "E\topen\t3\nT\t0\ta\tnew\t-\t-\t-\t-\nL\t65\t65\t1\n"
-    ∷ prints "W\t2\nT\ta\t0\nP\t1\t7\n" "E\topen\t7\nT\t0\ta\tnew\t-\t-\t-\t-\nL\t65\t66\t-\n"
+    ∷ prints "W\t1\n" "E\tfinished\t0\t0\nL\t64\t65\t-\n"
+    ∷ prints "W\t1\nT\ta\t0\n" "E\topen\t0\t1\nT\t0\ta\tnew\t-\t-\t-\t-\nL\t64\t65\t-\n"
+    ∷ prints "W\t1\nT\ta\t0\nR\t20\n" "E\tfinished\t10\t1\nT\t0\ta\tover\t0\t8\t10\t0\nL\t65\t66\t-\n"
+    ∷ prints "W\t2\nT\ta\t0\nP\t1\t3\nP\t0\t5\nP\t1\t4\nP\t0\t2\n" "E\tfinished\t14\t2\nT\t0\ta\tover\t0\t13\t14\t1\nL\t66\t66\t1\n"
+    ∷ prints "W\t2\nT\ta\t0\nP\t1\t3\n" "E\topen\t3\t2\nT\t0\ta\tnew\t-\t-\t-\t-\nL\t65\t65\t1\n"
+    ∷ prints "W\t2\nT\ta\t0\nP\t1\t7\n" "E\topen\t7\t2\nT\t0\ta\tnew\t-\t-\t-\t-\nL\t65\t66\t-\n"
     ∷ picks "W\t4\nS\t0\t1\n" (2 ∷ [])
     ∷ prints "W\t1\nT\ta\t0\tr5\tr5\n" "X\t5\t2\n"
     ∷ prints "W\t1\nT\ta\t0\tr1\tr2\tr3\tr4\tr1\n" "X\t4\t2\n"
@@ -70,8 +70,8 @@ examples = (refl, (refl, (refl, (refl, (refl, (refl, (refl, (refl, (refl, (refl,
 -- a task in a cell has no giver before the hand-over that lets its taker in, and has it from then on, before the taker has looked
 abbrev pub heldOnes : List Example
 heldOnes =
-    prints "W\t2\nT\ta\t0\nP\t1\t3\nP\t0\t5\nP\t1\t3\n" "E\topen\t11\nT\t0\ta\theld\t-\t-\t-\t-\nL\t66\t65\t1\n"
-    ∷ prints "W\t2\nT\ta\t0\nP\t1\t3\nP\t0\t5\nP\t1\t4\n" "E\topen\t12\nT\t0\ta\theld\t-\t-\t-\t1\nL\t66\t66\t1\n"
+    prints "W\t2\nT\ta\t0\nP\t1\t3\nP\t0\t5\nP\t1\t3\n" "E\topen\t11\t2\nT\t0\ta\theld\t-\t-\t-\t-\nL\t66\t65\t1\n"
+    ∷ prints "W\t2\nT\ta\t0\nP\t1\t3\nP\t0\t5\nP\t1\t4\n" "E\topen\t12\t2\nT\t0\ta\theld\t-\t-\t-\t1\nL\t66\t66\t1\n"
     ∷ []
 
 pub givers-shown : AllHold heldOnes
@@ -82,14 +82,31 @@ givers-shown = (refl, (refl, tt))
 -- task that is full at pick 6, so that pick 7 tries the lock and owns it; in the first form pick 7 takes a ticket to wait with
 abbrev pub withSizes : List Example
 withSizes =
-    prints "W\t2\t2\t1\n" "E\tfinished\t0\nL\t2\t3\t-\n"
+    prints "W\t2\t2\t1\n" "E\tfinished\t0\t0\nL\t2\t3\t-\n"
     ∷ prints "W\t2\t1\t1\n" "X\t9\t1\n"
-    ∷ prints "W\t32\t64\t8\n" "E\tfinished\t0\nL\t64\t65\t-\n"
-    ∷ prints "W\t2\t2\t1\nT\ta\t0\nP\t1\t3\nP\t0\t5\nP\t1\t4\nP\t0\t2\n" "E\tfinished\t14\nT\t0\ta\tover\t0\t13\t14\t1\nL\t4\t4\t1\n"
-    ∷ prints "W\t1\t1\t1\nT\ta\t0\nT\tb\t0\nR\t7\n" "E\topen\t7\nT\t0\ta\tready\t-\t-\t-\t-\nT\t1\tb\tready\t-\t-\t-\t-\nL\t2\t2\t0\n"
-    ∷ prints "W\t1\nT\ta\t0\nT\tb\t0\nR\t7\n" "E\topen\t7\nT\t0\ta\tready\t-\t-\t-\t-\nT\t1\tb\tready\t-\t-\t-\t-\nL\t65\t65\t-\n"
+    ∷ prints "W\t32\t64\t8\n" "E\tfinished\t0\t0\nL\t64\t65\t-\n"
+    ∷ prints "W\t2\t2\t1\nT\ta\t0\nP\t1\t3\nP\t0\t5\nP\t1\t4\nP\t0\t2\n" "E\tfinished\t14\t2\nT\t0\ta\tover\t0\t13\t14\t1\nL\t4\t4\t1\n"
+    ∷ prints "W\t1\t1\t1\nT\ta\t0\nT\tb\t0\nR\t7\n" "E\topen\t7\t2\nT\t0\ta\tready\t-\t-\t-\t-\nT\t1\tb\tready\t-\t-\t-\t-\nL\t2\t2\t0\n"
+    ∷ prints "W\t1\nT\ta\t0\nT\tb\t0\nR\t7\n" "E\topen\t7\t2\nT\t0\ta\tready\t-\t-\t-\t-\nT\t1\tb\tready\t-\t-\t-\t-\nL\t65\t65\t-\n"
     ∷ []
 
 pub sizes-shown : AllHold withSizes
 unfolding computed
 sizes-shown = (refl, (refl, (refl, (refl, (refl, (refl, tt))))))
+
+-- masks: the waiter is served with the task that it may run, past one for the owner; an owner that may not run the one ready task
+-- takes none; a mask of all workers changes nothing of the listing; what is turned away
+abbrev pub withMasks : List Example
+withMasks =
+    prints "W\t2\nT\ta\t0\nM\t1\nT\tb\t0\nM\t2\nP\t0\t9\nP\t1\t2\nP\t0\t3\n"
+    "E\topen\t14\t2\nT\t0\ta\tready\t-\t-\t-\t-\nT\t1\tb\theld\t-\t-\t-\t-\nL\t66\t65\t0\n"
+    ∷ prints "W\t2\nT\ta\t0\nM\t3\nP\t1\t3\nP\t0\t5\nP\t1\t4\nP\t0\t2\n" "E\tfinished\t14\t2\nT\t0\ta\tover\t0\t13\t14\t1\nL\t66\t66\t1\n"
+    ∷ prints "W\t2\nT\ta\t0\nM\t1\nP\t0\t3\nP\t1\t6\n" "E\topen\t9\t1\nT\t0\ta\tready\t-\t-\t-\t-\nL\t65\t65\t1\n"
+    ∷ prints "W\t2\nT\ta\t0\nM\t0\n" "X\t11\t3\n"
+    ∷ prints "W\t2\nT\ta\t0\nM\t4\n" "X\t2\t3\n"
+    ∷ prints "W\t2\nM\t1\n" "X\t3\t2\n"
+    ∷ []
+
+pub masks-shown : AllHold withMasks
+unfolding computed
+masks-shown = (refl, (refl, (refl, (refl, (refl, (refl, tt))))))

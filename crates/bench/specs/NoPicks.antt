@@ -10,7 +10,7 @@ use Rattle.plan.specs.Reading.{accepted, reading}
 use Rattle.plan.specs.Orders.{picksOfAll, picksUpTo}
 use Rattle.machine.specs.State.{start}
 use Rattle.machine.specs.Step.{finished, after}
-use Rattle.report.specs.Report.{outcomeFields, outcomeLine, taskLines, lockLine, report}
+use Rattle.report.specs.Report.{outcomeFields, totalPermitted, outcomeLine, taskLines, lockLine, report}
 use Rattle.orders.specs.Reached.{setupOf, reached}
 use Rattle.play.specs.declared.Answer.the-variants.{Reports}
 use Rattle.play.specs.Outcome.{Outcome}
@@ -23,7 +23,8 @@ abbrev pub startReport : Plan → List ℕ
 startReport p = report (setupOf p) (start (setupOf p))
 
 -- its first line says that none was taken
-pub start-line : (p : Plan) → Begins (line (outcomeFields (finished (setupOf p) (start (setupOf p))) 0)) (startReport p)
+pub start-line : (p : Plan)
+    → Begins (line (outcomeFields (finished (setupOf p) (start (setupOf p))) 0 (totalPermitted (setupOf p)))) (startReport p)
 unfolding start report
 start-line p =
     let c = setupOf p in

@@ -12,7 +12,7 @@ use Rattle.plan.specs.Accepted.{accepted-length}
 use Rattle.plan.specs.Orders.{picksUpTo}
 use Rattle.machine.specs.Step.{finished}
 use Rattle.machine.specs.Figures.{finishingFigure}
-use Rattle.report.specs.Report.{outcomeLine, taskLines, lockLine, report}
+use Rattle.report.specs.Report.{totalPermitted, outcomeLine, taskLines, lockLine, report}
 use Rattle.orders.specs.Reached.{setupOf, reached}
 use Rattle.orders.specs.AcceptedRuns.{own-finish}
 use Rattle.play.specs.declared.Answer.the-variants.{Reports}
@@ -39,7 +39,8 @@ report-begins p limit bs xs e (rest, f) =
 
 -- the first line of the report of a finished run
 outcome-finished : (p : Plan) (limit : ℕ) → finished (setupOf p) (reached p limit) ≡ true
-    → outcomeLine (setupOf p) (reached p limit) ≡ line (bytes "E" ∷ bytes "finished" ∷ decimal ((reached p limit) .picks) ∷ [])
+    → outcomeLine (setupOf p) (reached p limit)
+    ≡ line (bytes "E" ∷ bytes "finished" ∷ decimal ((reached p limit) .picks) ∷ decimal (totalPermitted (setupOf p)) ∷ [])
 outcome-finished p limit e = rw e refl
 
 -- ---- the answer of a run of an accepted text, with a store that is long enough
@@ -65,7 +66,8 @@ module _ (text : List ℕ) (p : Plan) (e : reading text ≡ accepted p) (limit :
         → (picks : ℕ) × (n : ℕ)
         × ((run limit store output text) .answer ≡ Reports picks n)
         × (picks ≤ finishingFigure (setupOf p) B)
-        × Begins (line (bytes "E" ∷ bytes "finished" ∷ decimal picks ∷ [])) ((run limit store output text) .output)
+        × Begins (line (bytes "E" ∷ bytes "finished" ∷ decimal picks ∷ decimal (totalPermitted (setupOf p)) ∷ []))
+        ((run limit store output text) .output)
     own-answer-finishes B regular enough =
         let (a, b) = own-answer in
         let (f, k) = own-finish text p e limit B regular enough in

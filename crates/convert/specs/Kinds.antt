@@ -1,6 +1,6 @@
 -- A line's kind and what it says, which its fields decide, whatever has been read before it.
 use Prim.Native.Nat.{ℕ}
-use mathlib.Core.Path.{_≡_, refl, ap}
+use mathlib.Core.Path.{_≡_, refl}
 use mathlib.Core.Bool.{Bool, true, false, cond}
 use mathlib.Core.List.{List, [], _∷_, map}
 use mathlib.Core.Option.{Option, none, some, Option·map}
@@ -11,8 +11,8 @@ use Rattle.text.specs.Numerals.{decimal-number}
 use Rattle.plan.specs.declared.form.Form.{Form}
 use Rattle.plan.specs.declared.form.Form.the-variants.{First, Second}
 use Rattle.plan.specs.Plan.{Access, Task, Order, picks, rounds, seeded, Plan}
-use Rattle.plan.specs.Line.{'P', 'R', 'S', 'T', 'W', Line, isLabel, accessOf}
-use Rattle.plan.specs.Line.{workersLine, taskLine, picksLine, roundsLine, seededLine}
+use Rattle.plan.specs.Line.{'M', 'P', 'R', 'S', 'T', 'W', Line, isLabel, accessOf}
+use Rattle.plan.specs.Line.{workersLine, taskLine, maskLine, picksLine, roundsLine, seededLine}
 use Rattle.plan.specs.Line.{oneNumber, withBoth, twoNumbers, inForm, withCost, labelAndCost, lineBy, lineOfFields}
 use Rattle.convert.specs.Convert.{workersFields}
 
@@ -20,6 +20,7 @@ pub data Kind : Type 0 where
   malformed : Kind
   workers : ℕ → Form → Kind
   task : Task → Kind
+  mask : ℕ → Kind
   order : Order → Kind
 
 abbrev pub orderOf : Plan → Order → Line
@@ -32,6 +33,7 @@ abbrev pub lineOfKind : Plan → Kind → Option Line
 lineOfKind p malformed = none
 lineOfKind p (workers n form) = some (workersLine p n form)
 lineOfKind p (task t) = some (taskLine p t)
+lineOfKind p (mask m) = some (maskLine p m)
 lineOfKind p (order o) = some (orderOf p o)
 
 -- a W line has one writing
@@ -39,6 +41,7 @@ abbrev pub Spelled : List (List ℕ) → Kind → Type 0
 Spelled fields malformed = Unit {0}
 Spelled fields (workers n form) = fields ≡ workersFields n form
 Spelled fields (task t) = Unit {0}
+Spelled fields (mask m) = Unit {0}
 Spelled fields (order o) = Unit {0}
 
 -- what is read of fields is of one kind
@@ -55,27 +58,27 @@ no-line : {fields : List (List ℕ)} → Kinded fields (λ p. none)
 no-line = kinded malformed tt (λ p. refl)
 
 module _ (all : List (List ℕ)) where
-  one-number : (make : Plan → ℕ → Line) (o : ℕ → Order) → ((p : Plan) (n : ℕ) → make p n ≡ orderOf p (o n))
-      → (fields : List (List ℕ)) → Kinded all (λ p. oneNumber (make p) fields)
-  one-number make o h [] = no-line
-  one-number make o h (f ∷ []) = go (numberOf f)
+  one-number : (make : Plan → ℕ → Line) → ((n : ℕ) → Kinded all (λ p. some (make p n))) → (fields : List (List ℕ))
+      → Kinded all (λ p. oneNumber (make p) fields)
+  one-number make h [] = no-line
+  one-number make h (f ∷ []) = go (numberOf f)
     where
       go : (x : Option ℕ) → Kinded all (λ p. Option·map (make p) x)
       go none = no-line
-      go (some n) = kinded (order (o n)) tt (λ p. ap some (h p n))
-  one-number make o h (f ∷ g ∷ gs) = no-line
+      go (some n) = h n
+  one-number make h (f ∷ g ∷ gs) = no-line
 
-  two-numbers : (make : Plan → ℕ → ℕ → Line) (o : ℕ → ℕ → Order) → ((p : Plan) (m n : ℕ) → make p m n ≡ orderOf p (o m n))
-      → (fields : List (List ℕ)) → Kinded all (λ p. twoNumbers (make p) fields)
-  two-numbers make o h [] = no-line
-  two-numbers make o h (f ∷ []) = no-line
-  two-numbers make o h (f ∷ g ∷ []) = go (numberOf f) (numberOf g)
+  two-numbers : (make : Plan → ℕ → ℕ → Line) → ((m n : ℕ) → Kinded all (λ p. some (make p m n))) → (fields : List (List ℕ))
+      → Kinded all (λ p. twoNumbers (make p) fields)
+  two-numbers make h [] = no-line
+  two-numbers make h (f ∷ []) = no-line
+  two-numbers make h (f ∷ g ∷ []) = go (numberOf f) (numberOf g)
     where
       go : (x y : Option ℕ) → Kinded all (λ p. withBoth (make p) x y)
       go none y = no-line
       go (some m) none = no-line
-      go (some m) (some n) = kinded (order (o m n)) tt (λ p. ap some (h p m n))
-  two-numbers make o h (f ∷ g ∷ k ∷ ks) = no-line
+      go (some m) (some n) = h m n
+  two-numbers make h (f ∷ g ∷ k ∷ ks) = no-line
 
   labelled : (fields : List (List ℕ)) → Kinded all (λ p. labelAndCost (taskLine p) fields)
   labelled [] = no-line
@@ -86,7 +89,7 @@ module _ (all : List (List ℕ)) where
       go false c xs = no-line
       go true none xs = no-line
       go true (some c) none = no-line
-      go true (some c) (some xs) = kinded (task (record { label = f; cost = c; accesses = xs })) tt (λ p. refl)
+      go true (some c) (some xs) = kinded (task (record { label = f; cost = c; accesses = xs; mask = none })) tt (λ p. refl)
 
   either : (b : Bool) (x y : Plan → Option Line) → (b ≡ true → Kinded all x) → Kinded all y → Kinded all (λ p. cond b (x p) (y p))
   either true x y f g = f refl
@@ -128,10 +131,15 @@ by-letter letter fields =
     let all = (letter ∷ []) ∷ fields in
     either all (eqb letter 'W') (λ p. inForm (workersLine p) fields) _ (λ e. rw (eqb-true letter 'W' e) (in-form fields))
     (either all (eqb letter 'T') (λ p. labelAndCost (taskLine p) fields) _ (λ e. labelled all fields)
-    (either all (eqb letter 'P') (λ p. twoNumbers (picksLine p) fields) _ (λ e. two-numbers all picksLine picks (λ p m n. refl) fields)
-    (either all (eqb letter 'R') (λ p. oneNumber (roundsLine p) fields) _ (λ e. one-number all roundsLine rounds (λ p n. refl) fields)
-    (either all (eqb letter 'S') (λ p. twoNumbers (seededLine p) fields) _ (λ e. two-numbers all seededLine seeded (λ p m n. refl) fields)
-    no-line))))
+    (either all (eqb letter 'M') (λ p. oneNumber (maskLine p) fields) _
+    (λ e. one-number all maskLine (λ m. kinded (mask m) tt (λ p. refl)) fields)
+    (either all (eqb letter 'P') (λ p. twoNumbers (picksLine p) fields) _
+    (λ e. two-numbers all picksLine (λ w n. kinded (order (picks w n)) tt (λ p. refl)) fields)
+    (either all (eqb letter 'R') (λ p. oneNumber (roundsLine p) fields) _
+    (λ e. one-number all roundsLine (λ n. kinded (order (rounds n)) tt (λ p. refl)) fields)
+    (either all (eqb letter 'S') (λ p. twoNumbers (seededLine p) fields) _
+    (λ e. two-numbers all seededLine (λ s n. kinded (order (seeded s n)) tt (λ p. refl)) fields)
+    no-line)))))
 
 pub kind-of : (fields : List (List ℕ)) → Kinded fields (λ p. lineOfFields p fields)
 unfolding lineOfFields

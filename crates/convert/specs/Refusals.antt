@@ -5,11 +5,10 @@ use mathlib.Core.Bool.{true, false}
 use mathlib.Core.List.{List}
 use mathlib.Core.Logic.{_⊎_, inl, inr, ⊎-elim, _↔_}
 use native.Mathlib.Omega.{arith}
-use lib.Dec.{eqb}
 use lib.ListN.{length}
 use borrow.Author.Tests.{ltb-true, eq-eqb}
 use Rattle.refusals.specs.declared.Refusal.{Refusal}
-use Rattle.refusals.specs.declared.Refusal.the-variants.{TextTooLong, OutputTooShort, TooFewSlots, OtherSizes}
+use Rattle.refusals.specs.declared.Refusal.the-variants.{TextTooLong, OutputTooShort, TooFewSlots, OtherSizes, EmptyMask}
 use Rattle.refusals.specs.Number.{number}
 use Rattle.runs.specs.Tests.{ways}
 use Rattle.runs.specs.Update.{order, clash}
@@ -39,26 +38,30 @@ made : {C : Type 0} (make : Plan → Result) (x : Reading) (r : Refusal) (n : �
 made make (accepted p) r n e read of = of p refl e
 made make (refused why k) r n e read of = read (let same : why ≡ r = cc in let line : k ≡ n = cc in rw (same, line))
 
+by-author : {C : Type 0} (r : Refusal) → ByAuthor r → (number r ≤ 5 → C) → (r ≡ TooFewSlots → C) → (r ≡ EmptyMask → C) → C
+by-author r h low few empty = ⊎-elim low (⊎-elim few empty) h
+
 -- the reader gives 6 for a text that is too long
 read-6 : (text : List ℕ) (n : ℕ) → reading text ≡ refused TextTooLong n → (n ≡ 0) × (65536 < length text)
 read-6 text n e =
     ⊎-elim (λ (h : (TextTooLong ≡ TextTooLong) × (n ≡ 0) × (65536 < length text)). (h .1, h .2))
     (λ (h : ByAuthor TextTooLong × (1 ≤ n)).
-    ⊎-elim (λ (l : number TextTooLong ≤ 5). absurd (omega arith)) (λ (q : TextTooLong ≡ TooFewSlots). clash (cc)) (h .0))
+    by-author TextTooLong (h .0) (λ l. absurd (omega arith)) (λ q. clash (cc)) (λ q. clash (cc)))
     (refused-by text TextTooLong n e)
 
 -- and neither 8 nor 10
-unread : (text : List ℕ) (r : Refusal) (n : ℕ) → 6 < number r → (r ≡ TooFewSlots → ⊥) → reading text ≡ refused r n → ⊥
-unread text r n high other e =
+unread : (text : List ℕ) (r : Refusal) (n : ℕ) → 6 < number r → (r ≡ TooFewSlots → ⊥) → (r ≡ EmptyMask → ⊥) → reading text ≡ refused r n
+    → ⊥
+unread text r n high other empty e =
     ⊎-elim (λ (h : (r ≡ TextTooLong) × (n ≡ 0) × (65536 < length text)). absurd (omega (arith, ap number (h .0))))
-    (λ (h : ByAuthor r × (1 ≤ n)). ⊎-elim (λ (l : number r ≤ 5). absurd (omega arith)) other (h .0))
+    (λ (h : ByAuthor r × (1 ≤ n)). by-author r (h .0) (λ l. absurd (omega arith)) other empty)
     (refused-by text r n e)
 
 unread-8 : (text : List ℕ) (n : ℕ) → reading text ≡ refused OutputTooShort n → ⊥
-unread-8 text n = unread text OutputTooShort n (omega arith) (λ is. clash (cc))
+unread-8 text n = unread text OutputTooShort n (omega arith) (λ is. clash (cc)) (λ is. clash (cc))
 
 unread-10 : (text : List ℕ) (n : ℕ) → reading text ≡ refused OtherSizes n → ⊥
-unread-10 text n = unread text OtherSizes n (omega arith) (λ is. clash (cc))
+unread-10 text n = unread text OtherSizes n (omega arith) (λ is. clash (cc)) (λ is. clash (cc))
 
 -- ---- what is refused of a plan
 

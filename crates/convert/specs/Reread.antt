@@ -17,15 +17,15 @@ use Rattle.text.specs.FieldLaws.{some-part}
 use Rattle.text.specs.Numerals.{number-decimal, decimal-digits}
 use Rattle.plan.specs.declared.form.Form.{Form}
 use Rattle.plan.specs.declared.form.Form.the-variants.{First, Second}
-use Rattle.plan.specs.Plan.{Task, Order, picks, rounds, seeded, slotsOf, Plan, emptyPlan, withWorkers}
-use Rattle.plan.specs.Line.{Line, workersLine, taskLine, picksLine, roundsLine, seededLine}
+use Rattle.plan.specs.Plan.{Task, Order, picks, rounds, seeded, slotsOf, Plan, emptyPlan, withWorkers, maskLast}
+use Rattle.plan.specs.Line.{Line, endsUnmasked, workersLine, taskLine, maskLine, picksLine, roundsLine, seededLine}
 use Rattle.plan.specs.Line.{sizesInRange, inForm, lineBy, lineOfFields, lineOf}
 use Rattle.plan.specs.Reading.{Reading, accepted, refused, firstRefusal, readLine, readLines, isTooLong, reading}
 use Rattle.plan.specs.Lengths.{reading-short}
 use Rattle.plan.specs.Accepted.{granted}
 use Rattle.convert.specs.Convert.{afterLine, workersFields, rewritten}
 use Rattle.convert.specs.FirstLine.{isFieldByte, Whole, line-splits, after-line, line-before, parts-after}
-use Rattle.convert.specs.Kinds.{Kind, malformed, workers, task, order, Spelled, lineOfKind, kind-of}
+use Rattle.convert.specs.Kinds.{Kind, malformed, workers, task, mask, order, Spelled, lineOfKind, kind-of}
 
 -- the plan in another form
 abbrev pub withForm : Form → Plan → Plan
@@ -58,6 +58,7 @@ module _ (n : ℕ) (started : eqb n 0 ≡ false) (own other : Form) where
     alike-kind malformed = refl
     alike-kind (workers m form) = simp started
     alike-kind (task t) = alike-asked (firstRefusal (taskLine (soFar own ts os) t .asks)) (ts ++ t ∷ []) os
+    alike-kind (mask m) = alike-asked (firstRefusal (maskLine (soFar own ts os) m .asks)) (maskLast m ts) os
     alike-kind (order (picks worker m)) =
         alike-asked (firstRefusal (picksLine (soFar own ts os) worker m .asks)) ts (os ++ picks worker m ∷ [])
     alike-kind (order (rounds m)) = alike-asked (firstRefusal (roundsLine (soFar own ts os) m .asks)) ts (os ++ rounds m ∷ [])
@@ -123,10 +124,11 @@ module _ (text : List ℕ) (p : Plan) where
 
     begun-kind : (kind : Kind) → Spelled (split tab part) kind
         → readLine 1 (lineOfKind emptyPlan kind) (λ q. readLines q 2 (next ∷ parts)) ≡ accepted p → Begun text p
-    unfolding firstRefusal
+    unfolding firstRefusal endsUnmasked
     begun-kind malformed s e = clash (cc)
     begun-kind (workers n form) s e = begun-asked n form s (firstRefusal (workersLine emptyPlan n form .asks)) refl e
     begun-kind (task t) s e = clash (cc)
+    begun-kind (mask m) s e = clash (cc)
     begun-kind (order (picks worker n)) s e = clash (cc)
     begun-kind (order (rounds n)) s e = clash (cc)
     begun-kind (order (seeded seed n)) s e = clash (cc)

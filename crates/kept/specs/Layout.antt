@@ -8,9 +8,10 @@ mostTasks = 128
 abbrev pub mostTaskAccesses : ℕ
 mostTaskAccesses = 4
 
--- a task's row and its columns: where its label stands in the text, and its length; the cost; how many accesses there are; the accesses
+-- a task's row and its columns: where its label stands in the text, and its length; the cost; the mask; how many accesses there are; the
+-- accesses
 abbrev pub taskRow : ℕ
-taskRow = 12
+taskRow = 13
 
 abbrev pub taskRows : ℕ
 taskRows = mostTasks * taskRow
@@ -24,11 +25,14 @@ size = 1
 abbrev pub cost : ℕ
 cost = 2
 
+abbrev pub mask : ℕ
+mask = 3
+
 abbrev pub count : ℕ
-count = 3
+count = 4
 
 abbrev pub accesses : ℕ
-accesses = 4
+accesses = 5
 
 -- an access: 1 for a writer, else 0; the address
 abbrev pub accessRow : ℕ

@@ -1,12 +1,13 @@
 -- Rows of tasks while they are kept one after the other, and what they say when all are.
 use Prim.Native.Nat.{ℕ, zero, suc, _+_, _*_, _-_, _≤_, _<_}
 use mathlib.Core.Path.{_≡_, refl, sym, ap, _∙_}
-use mathlib.Core.List.{List, [], _∷_, _++_, map-append, append-nil, append-assoc}
+use mathlib.Core.List.{List, [], _∷_, _++_, map, map-append, append-nil, append-assoc}
+use mathlib.Core.Option.{some}
 use native.Mathlib.Omega.{arith}
-use lib.ListN.{length, getD, length-append, length-map, length-replicate, List·getD-append, List·getD-map}
+use lib.ListN.{length, getD, set, length-append, length-map, length-replicate, List·getD-append, List·getD-map}
 use lib.Seq.{sets, length-sets, getD-append-add}
-use Rattle.runs.specs.Stores.{sets-append, sets-at}
-use Rattle.plan.specs.Plan.{Access, Task}
+use Rattle.runs.specs.Stores.{sets-append, sets-at, set-sets}
+use Rattle.plan.specs.Plan.{Access, Task, maskLast}
 use Rattle.plan.specs.Accepted.{Each, each-more}
 use Rattle.plan.specs.PassFields.{bit}
 use Rattle.kept.specs.Layout as layout
@@ -73,6 +74,51 @@ rows-at (t ∷ ts) few (suc i) k d l h =
     rw e (getD-append-add (rowOf t) (rowsOf ts) (layout.taskRow * i + k) 0
     ∙ rows-at ts (λ j m. few (suc j) (omega arith)) i k d (omega arith) h)
 
+-- ---- the last row with a mask
+
+abbrev masked : ℕ → Placed → Placed
+masked m t =
+    record { at = t .at; task = record { label = t .task .label; cost = t .task .cost; accesses = t .task .accesses; mask = some m } }
+
+unfoldable lastMasked : ℕ → List Placed → List Placed
+lastMasked m [] = []
+lastMasked m (t ∷ []) = masked m t ∷ []
+lastMasked m (t ∷ u ∷ ts) = t ∷ lastMasked m (u ∷ ts)
+
+masked-tasks : (m : ℕ) (ts : List Placed) → map (λ t. t .task) (lastMasked m ts) ≡ maskLast m (map (λ t. t .task) ts)
+unfolding lastMasked maskLast
+masked-tasks m [] = refl
+masked-tasks m (t ∷ []) = refl
+masked-tasks m (t ∷ u ∷ ts) = ap (λ us. t .task ∷ us) (masked-tasks m (u ∷ ts))
+
+-- what does not speak of masks holds as before
+masked-each : (P : Placed → Type 0) (m : ℕ) → ((t : Placed) → P t → P (masked m t)) → (ts : List Placed) → Each P ts
+    → Each P (lastMasked m ts)
+unfolding lastMasked
+masked-each P m f [] h i l d = absurd (omega arith)
+masked-each P m f (t ∷ []) h zero l d = f t (h 0 (omega arith) d)
+masked-each P m f (t ∷ []) h (suc i) l d = absurd (omega arith)
+masked-each P m f (t ∷ u ∷ ts) h zero l d = h 0 (omega arith) d
+masked-each P m f (t ∷ u ∷ ts) h (suc i) l d = masked-each P m f (u ∷ ts) (λ j k. h (suc j) (omega arith)) i (omega arith) d
+
+set-behind : (xs ys : List ℕ) (k a : ℕ) → set (xs ++ ys) (length xs + k) a ≡ xs ++ set ys k a
+set-behind [] ys k a = let e : 0 + k ≡ k = omega arith in rw e
+set-behind (x ∷ xs) ys k a =
+    let e : suc (length xs) + k ≡ suc (length xs + k) = omega arith in
+    rw e (ap (λ zs. x ∷ zs) (set-behind xs ys k a))
+
+masked-rows : (m : ℕ) (ts : List Placed) → Each Few ts → (i : ℕ) → length ts ≡ suc i
+    → set (rowsOf ts) (layout.taskRow * i + layout.mask) m ≡ rowsOf (lastMasked m ts)
+unfolding rowsOf lastMasked
+masked-rows m [] few i e = absurd (omega arith)
+masked-rows m (t ∷ []) few i e = let z : i ≡ 0 = omega arith in rw z
+masked-rows m (t ∷ u ∷ ts) few zero e = absurd (omega arith)
+masked-rows m (t ∷ u ∷ ts) few (suc i) e =
+    let at : layout.taskRow * suc i + layout.mask ≡ length (rowOf t) + (layout.taskRow * i + layout.mask) =
+    omega (arith, row-length t (few 0 (omega arith) t)) in
+    rw at (set-behind (rowOf t) (rowsOf (u ∷ ts)) (layout.taskRow * i + layout.mask) m
+    ∙ ap (λ xs. rowOf t ++ xs) (masked-rows m (u ∷ ts) (λ j l. few (suc j) (omega arith)) i (omega arith)))
+
 -- ---- tasks are kept one by one
 
 pub no-tasks : (text rows : List ℕ) → KeepsTasks text rows [] rows
@@ -115,6 +161,27 @@ module _ {text rows : List ℕ} where
           rw (e, h .stores, at, rows-append (h .placed) (t ∷ []), append-nil (rowOf t))
           (sym (sets-append (rowsOf (h .placed)) (rowOf t) rows 0))
 
+  -- the mask of the last task is kept
+  pub mask-kept : {ts : List Task} {mid after : List ℕ} → KeepsTasks text rows ts mid → (m i : ℕ) → length ts ≡ suc i
+      → after ≡ set mid (layout.taskRow * i + layout.mask) m → KeepsTasks text rows (maskLast m ts) after
+  mask-kept {ts} {after = after} h m i last e =
+      record {
+        placed = lastMasked m (h .placed);
+        tasks = masked-tasks m (h .placed) ∙ ap (maskLast m) (h .tasks);
+        labels = masked-each (Labelled text) m (λ t l. l) (h .placed) (h .labels);
+        few = masked-each Few m (λ t l. l) (h .placed) (h .few);
+        stores = stores;
+      }
+    where
+      place : 0 + (layout.taskRow * i + layout.mask) ≡ layout.taskRow * i + layout.mask
+      place = omega arith
+
+      stores : after ≡ sets rows 0 (rowsOf (lastMasked m (h .placed)))
+      stores =
+          e ∙ ap (λ xs. set xs (layout.taskRow * i + layout.mask) m) (h .stores)
+          ∙ rw place at (set-sets (rowsOf (h .placed)) rows 0 (layout.taskRow * i + layout.mask) m (omega (arith, stored-length h)))
+          ∙ ap (sets rows 0) (masked-rows m (h .placed) (h .few) i (placed-count h ∙ last))
+
   pub tasks-length : {ts : List Task} {after : List ℕ} → KeepsTasks text rows ts after → length after ≡ length rows
   tasks-length h = rw (h .stores) (length-sets rows 0 (rowsOf (h .placed)))
 
@@ -147,8 +214,8 @@ module _ {text rows : List ℕ} {ts : List Task} {after : List ℕ} (h : KeepsTa
   access-number : (j at : ℕ) → layout.accesses + j < layout.taskRow → at ≡ layout.taskRow * i + layout.accesses + j
       → getD after at 0 ≡ getD numbers j 0
   access-number j at b e =
-      let at-row : at ≡ layout.taskRow * i + suc (suc (suc (suc j))) = omega arith in
-      rw at-row (number (suc (suc (suc (suc j)))) (omega arith))
+      let at-row : at ≡ layout.taskRow * i + suc (suc (suc (suc (suc j)))) = omega arith in
+      rw at-row (number (suc (suc (suc (suc (suc j))))) (omega arith))
 
   touch : (k : ℕ) → k < length accesses → (a : Access) → touchAt after i k ≡ touchOf (getD accesses k a)
   touch k b a =
@@ -170,6 +237,7 @@ module _ {text rows : List ℕ} {ts : List Task} {after : List ℕ} (h : KeepsTa
         label = rw (number layout.place (omega arith), number layout.size (omega arith)) (h .labels i low _);
         size = number layout.size (omega arith);
         cost = number layout.cost (omega arith);
+        mask = number layout.mask (omega arith);
         count = number layout.count (omega arith);
         accesses = touch;
       }

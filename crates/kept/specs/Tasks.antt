@@ -2,6 +2,7 @@
 use Prim.Native.Nat.{ℕ, _+_, _*_, _-_, _≤_, _<_}
 use mathlib.Core.Path.{_≡_}
 use mathlib.Core.List.{List, [], _∷_, _++_, map}
+use mathlib.Core.Option.{Option, none, some}
 use lib.ListN.{length, take, drop, getD, replicate}
 use lib.Seq.{sets}
 use Rattle.plan.specs.Plan.{Access, Task}
@@ -24,10 +25,15 @@ pub record Placed : Type 0 where
 abbrev pub spare : ℕ → List ℕ
 spare n = replicate (layout.accessRow * n) 0
 
+-- a mask of 0 is never kept, so 0 stands for none
+abbrev pub maskCode : Option ℕ → ℕ
+maskCode none = 0
+maskCode (some m) = m
+
 -- its row: what there is room for and is not there is 0
 abbrev pub rowOf : Placed → List ℕ
 rowOf t =
-    t .at ∷ length (t .task .label) ∷ t .task .cost ∷ length (t .task .accesses)
+    t .at ∷ length (t .task .label) ∷ t .task .cost ∷ maskCode (t .task .mask) ∷ length (t .task .accesses)
     ∷ (accessNumbers (t .task .accesses) ++ spare (layout.mostTaskAccesses - length (t .task .accesses)))
 
 unfoldable pub rowsOf : List Placed → List ℕ
@@ -57,6 +63,7 @@ rowAt rows i =
       place = getD rows (at + layout.place) 0;
       size = getD rows (at + layout.size) 0;
       cost = getD rows (at + layout.cost) 0;
+      mask = getD rows (at + layout.mask) 0;
       count = getD rows (at + layout.count) 0;
     }
 
@@ -73,6 +80,7 @@ pub record TaskIn (text rows : List ℕ) (i : ℕ) (t : Task) : Type 0 where
   pub label : labelAt text (rowAt rows i .place) (rowAt rows i .size) ≡ t .label
   pub size : rowAt rows i .size ≡ length (t .label)
   pub cost : rowAt rows i .cost ≡ t .cost
+  pub mask : rowAt rows i .mask ≡ maskCode (t .mask)
   pub count : rowAt rows i .count ≡ length (t .accesses)
   pub accesses : (k : ℕ) → k < length (t .accesses) → (d : Access) → touchAt rows i k ≡ touchOf (getD (t .accesses) k d)
 

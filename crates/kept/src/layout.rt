@@ -5,8 +5,9 @@ pub const MOST_TASKS: usize = 128;
 
 pub const MOST_TASK_ACCESSES: usize = 4;
 
-// A task's row and its columns: where its label stands in the text, and its length; the cost; how many accesses there are; the accesses.
-pub const TASK_ROW: usize = 12;
+// A task's row and its columns: where its label stands in the text, and its length; the cost; the mask; how many accesses there are; the
+// accesses.
+pub const TASK_ROW: usize = 13;
 
 pub const TASK_ROWS: usize = MOST_TASKS * TASK_ROW;
 
@@ -16,9 +17,11 @@ pub const SIZE: usize = 1;
 
 pub const COST: usize = 2;
 
-pub const COUNT: usize = 3;
+pub const MASK: usize = 3;
 
-pub const ACCESSES: usize = 4;
+pub const COUNT: usize = 4;
+
+pub const ACCESSES: usize = 5;
 
 // An access: 1 for a writer, else 0; the address.
 pub const ACCESS_ROW: usize = 2;

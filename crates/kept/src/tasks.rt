@@ -1,18 +1,20 @@
 // Tasks in rows of numbers.
 ghost use mathlib.Core.Path.{_≡_};
-ghost use Prim.Native.Nat.{_*_, _≤_, _<_};
-ghost use lib.ListN.{length};
+ghost use Prim.Native.Nat.{_+_, _*_, _≤_, _<_};
+ghost use lib.ListN.{length, set};
 ghost use lib.Seq.{sets};
 ghost use Rattle.kept.specs.Layout as lay;
 ghost use Rattle.kept.specs.Tasks.{rowAt, touchAt, labelAt};
 use super::layout;
 use super::put;
 
-// A task's row without its accesses: where its label stands in the text and how long it is, its cost, how many accesses it has.
+// A task's row without its accesses: where its label stands in the text and how long it is, its cost, its mask (0 for none), how many
+// accesses it has.
 pub struct Row {
     pub place: u64,
     pub size: u64,
     pub cost: u64,
+    pub mask: u64,
     pub count: u64,
 }
 
@@ -35,6 +37,14 @@ pub fn keep_task(rows: &mut [u64], i: usize, row: &[u64])
     }
 }
 
+// Sets the mask of task i, as far as the rows reach.
+pub fn keep_mask(rows: &mut [u64], i: usize, mask: u64)
+    requires { ⌜ i ≤ lay.mostTasks ⌝ }
+    ensures { λ _. ⌜ now (rows .exit) ≡ set (now (rows .entry)) (lay.taskRow * i + lay.mask) mask ⌝ }
+{
+    put(rows, layout::TASK_ROW * i + layout::MASK, mask);
+}
+
 // The row of task i.
 pub fn row_at(rows: &[u64], i: usize) -> Row
     requires { ⌜ (length (now rows) ≡ lay.taskRows) × (i < lay.mostTasks) ⌝ }
@@ -45,6 +55,7 @@ pub fn row_at(rows: &[u64], i: usize) -> Row
         place: rows[at + layout::PLACE],
         size: rows[at + layout::SIZE],
         cost: rows[at + layout::COST],
+        mask: rows[at + layout::MASK],
         count: rows[at + layout::COUNT],
     }
 }

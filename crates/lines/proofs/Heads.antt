@@ -33,7 +33,7 @@ use Rattle.lines.proofs.Wholes.{formless-next, Told, number-untold, abo
 
 -- ---- the row of a task without accesses
 
--- the row has only zeros from its count on, up to column k
+-- the row has only zeros from its mask on, up to column k
 abbrev pub Cleared : List ℕ → ℕ → Type 0
 Cleared row k = (i : ℕ) → 3 ≤ i → i < k → getD row i 0 ≡ 0
 
@@ -42,15 +42,15 @@ clear-more row k h cleared i l u =
     ⊎-elim (λ (w : i < k). getD-set-other row k i 0 0 (omega arith) ∙ cleared i l w)
     (λ (w : k ≤ i). let same : i ≡ k = omega arith in rw same (getD-set-same row k 0 0 h)) (order i k)
 
-pub row-begun : (row : List ℕ) (place size cost : ℕ) → length row ≡ 12 → Cleared row 12
+pub row-begun : (row : List ℕ) (place size cost : ℕ) → length row ≡ 13 → Cleared row 13
     → set (set (set row 0 place) 1 size) 2 cost ≡ bareRow place size cost
 row-begun [] place size cost l h = absurd (omega arith)
 row-begun (a ∷ []) place size cost l h = absurd (omega arith)
 row-begun (a ∷ b ∷ []) place size cost l h = absurd (omega arith)
 row-begun (a ∷ b ∷ c ∷ row) place size cost l h =
     ap (λ (xs : List ℕ). place ∷ size ∷ cost ∷ xs)
-    (ext-getD 0 row (replicate 9 0) (omega arith)
-    (λ i k. h (suc (suc (suc i))) (omega arith) (omega arith) ∙ sym (getD-replicate 9 i 0 0 (omega arith))))
+    (ext-getD 0 row (replicate 10 0) (omega arith)
+    (λ i k. h (suc (suc (suc i))) (omega arith) (omega arith) ∙ sym (getD-replicate 10 i 0 0 (omega arith))))
 
 -- ---- the label
 

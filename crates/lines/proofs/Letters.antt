@@ -14,7 +14,7 @@ use Rattle.text.specs.Fields.{NONE, First, unended, first, firstLine, Fields}
 use Rattle.text.specs.FieldLaws.{byte-within, fields-reach, fields-letter, letter-of, letter-alone}
 use Rattle.plan.specs.Plan.{Plan}
 use Rattle.plan.specs.Line as plans
-use Rattle.plan.specs.Line.{'P', 'R', 'S', 'T', 'W', labelAndCost, taskLine, lineBy, lineOfFields}
+use Rattle.plan.specs.Line.{'M', 'P', 'R', 'S', 'T', 'W', labelAndCost, taskLine, lineBy, lineOfFields}
 use Rattle.lines.specs.declared.line.Line.{Line}
 use Rattle.lines.specs.Lines.{wrongLine, Formless, Whole, TaskHead, begun, LineAt, whole, task}
 use Rattle.lines.specs.Lines.Whole.{malformed}
@@ -68,10 +68,18 @@ module _ (text : List ℕ) (at : ℕ) {p : Plan} {row : List ℕ} {r : Line} {mo
   unfolding lineBy
   no-tab ends = unlettered (λ letter fs rest e. rw (letter-alone text at letter fs rest e ends) (simp cond-none))
 
-  pub no-letter : (letter : ℕ) → getD text at NONE ≡ letter → letter ≢ 'W' → letter ≢ 'T' → letter ≢ 'P' → letter ≢ 'R' → letter ≢ 'S'
-      → LineAt text at p row r n
+  pub no-letter : (letter : ℕ) → getD text at NONE ≡ letter → letter ≢ 'W' → letter ≢ 'T' → letter ≢ 'M' → letter ≢ 'P' → letter ≢ 'R'
+      → letter ≢ 'S' → LineAt text at p row r n
   unfolding lineBy
-  no-letter letter here w t q r s =
+  no-letter letter here w t m q r s =
       unlettered (λ b fs rest e.
       let same : b ≡ letter = cc (letter-of text at b fs rest e) in
-      rw same (simp (ne-eqb letter 'W' w, ne-eqb letter 'T' t, ne-eqb letter 'P' q, ne-eqb letter 'R' r, ne-eqb letter 'S' s)))
+      rw same
+      (simp (
+        ne-eqb letter 'W' w,
+        ne-eqb letter 'T' t,
+        ne-eqb letter 'M' m,
+        ne-eqb letter 'P' q,
+        ne-eqb letter 'R' r,
+        ne-eqb letter 'S' s,
+      )))

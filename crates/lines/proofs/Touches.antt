@@ -7,10 +7,10 @@ use mathlib.Core.Option.{none, some}
 use native.Mathlib.Omega.{arith}
 use lib.ListN.{length, getD, set, replicate, length-append}
 use lib.Dec.{eqb, leb, ltb}
-use borrow.Author.Tests.{le-ltb, le-leb, lt-leb, leb-true, leb-false, ltb-true, ltb-false}
+use borrow.Author.Tests.{le-ltb, le-leb, lt-leb, leb-true, leb-false, ltb-true, ltb-false, not-true}
 use Rattle.refusals.specs.declared.Refusal.the-variants.{OutOfRange, Misplaced, TooMany, AddressTwice}
 use Rattle.runs.specs.Every.{every, every-append}
-use Rattle.runs.specs.Tests.{ways, both-left, both-right}
+use Rattle.runs.specs.Tests.{ways, both-left, both-right, or-right}
 use Rattle.text.specs.Fields.{clipped}
 use Rattle.plan.specs.Plan.{Access, Plan}
 use Rattle.plan.specs.Line.{ask, access, repeats, atStart, hasOrders, taskLine}
@@ -21,7 +21,7 @@ use Rattle.kept.specs.Tasks.{accessNumbers, Placed, rowOf}
 use Rattle.kept.specs.TaskLaws.{number-at}
 use Rattle.lines.specs.declared.line.Fault.the-variants.{Nothing, Is}
 use Rattle.lines.specs.declared.accesses.Accesses.{Accesses}
-use Rattle.lines.specs.Lines.{faultOf, faultIn, headFault, bare}
+use Rattle.lines.specs.Lines.{faultOf, faultIn, taskOf, headFault, bare}
 use Rattle.lines.specs.Accesses.{counted, lowAddresses, touches, withAccesses, Reads, taskFault}
 use Rattle.lines.proofs.Wholes.{above-below, low-clipped}
 
@@ -29,9 +29,9 @@ use Rattle.lines.proofs.Wholes.{above-below, low-clipped}
 
 -- the address of access k
 pub address-at : (t : Placed) (xs : List Access) (k : ℕ) (d : Access) → k < length xs
-    → getD (rowOf (withAccesses t xs)) (4 + 2 * k + 1) 0 ≡ getD xs k d .address
+    → getD (rowOf (withAccesses t xs)) (5 + 2 * k + 1) 0 ≡ getD xs k d .address
 address-at t xs k d h =
-    let e : 4 + 2 * k + 1 ≡ suc (suc (suc (suc (2 * k + 1)))) = omega arith in
+    let e : 5 + 2 * k + 1 ≡ suc (suc (suc (suc (suc (2 * k + 1))))) = omega arith in
     rw e (number-at xs _ k d h .1)
 
 numbers-more : (xs : List Access) (b : Bool) (address m : ℕ)
@@ -46,16 +46,17 @@ numbers-more (x ∷ xs) b address m =
 
 -- one access more
 row-more : (t : Placed) (xs : List Access) (b : Bool) (address : ℕ) → length xs < 4
-    → set (set (set (rowOf (withAccesses t xs)) (4 + 2 * length xs) (bit b)) (4 + 2 * length xs + 1) address) 3 (length xs + 1)
+    → set (set (set (rowOf (withAccesses t xs)) (5 + 2 * length xs) (bit b)) (5 + 2 * length xs + 1) address) 4 (length xs + 1)
     ≡ rowOf (withAccesses t (xs ++ access b address ∷ []))
 row-more t xs b address h =
     let n = length-append xs (access b address ∷ []) in
-    let e : 4 + 2 * length xs ≡ suc (suc (suc (suc (2 * length xs)))) = omega arith in
-    let f : 4 + 2 * length xs + 1 ≡ suc (suc (suc (suc (2 * length xs + 1)))) = omega arith in
+    let e : 5 + 2 * length xs ≡ suc (suc (suc (suc (suc (2 * length xs))))) = omega arith in
+    let f : 5 + 2 * length xs + 1 ≡ suc (suc (suc (suc (suc (2 * length xs + 1))))) = omega arith in
     let before : 4 - length xs ≡ suc (3 - length xs) = omega arith in
     let after : 4 - length (xs ++ access b address ∷ []) ≡ 3 - length xs = omega arith in
     rw (f, e, before, after, n)
-    (ap (λ (l : List ℕ). t .at ∷ length (t .task .label) ∷ t .task .cost ∷ (length xs + 1) ∷ l) (numbers-more xs b address (3 - length xs)))
+    (ap (λ (l : List ℕ). t .at ∷ length (t .task .label) ∷ t .task .cost ∷ 0 ∷ (length xs + 1) ∷ l)
+    (numbers-more xs b address (3 - length xs)))
 
 -- ---- what is noticed
 
@@ -124,7 +125,7 @@ module _ {t : Placed} {xs : List Access} {a : Accesses} {row : List ℕ} (so : R
 
     pub reads-more : {out again : Bool} → out ≡ (a .out || ltb 65535 address) → again ≡ (a .again || touches xs address)
         → Reads t more (record { count = a .count + 1; out = out; again = again })
-        (set (set (set row (4 + 2 * a .count) (bit b)) (4 + 2 * a .count + 1) address) 3 (a .count + 1))
+        (set (set (set row (5 + 2 * a .count) (bit b)) (5 + 2 * a .count + 1) address) 4 (a .count + 1))
     reads-more e f =
         let four = le-leb (length more) 4 (omega (arith, more-length, few)) in
         record {
@@ -187,7 +188,7 @@ fault-by true true true true true s a n out tasks count again = simp (out, tasks
 module _ (p : Plan) (label : List ℕ) (cost : ℕ) (xs : List Access) {t : Placed} {a : Accesses} {row : List ℕ}
     (so : Reads t (seen xs) a row) where
   pub task-fault : taskFault (headFault p cost) a (length (p .tasks))
-      ≡ faultIn (taskLine p (record { label = label; cost = cost; accesses = xs }))
+      ≡ faultIn (taskLine p (taskOf label cost xs))
   task-fault =
       fault-by (not (atStart p || hasOrders p)) (leb cost 1000) (lowAddresses xs) (ltb (length (p .tasks)) 128) (leb (length xs) 4)
       (repeats xs) a (length (p .tasks)) (so .out ∙ ap not (seen-low xs)) (not-below (length (p .tasks))) many
@@ -202,9 +203,13 @@ module _ (p : Plan) (label : List ℕ) (cost : ℕ) (xs : List Access) {t : Plac
           (ways (leb (length xs) 4) (λ e. simp (e, le-ltb 4 (length xs) (leb-true (length xs) 4 e))) (λ e. simp e))
 
   -- without a fault there is room for the task and its accesses
-  module _ (good : firstRefusal (taskLine p (record { label = label; cost = cost; accesses = xs }) .asks) ≡ none) where
+  module _ (good : firstRefusal (taskLine p (taskOf label cost xs) .asks) ≡ none) where
     in-range : ((leb cost 1000 && lowAddresses xs) ≡ true) × ((ltb (length (p .tasks)) 128 && leb (length xs) 4) ≡ true)
     in-range = let all = granted _ good in (all .1 .0, all .1 .1 .0)
+
+    -- it stands before all order lines
+    pub task-place : hasOrders p ≡ false
+    task-place = or-right (atStart p) (hasOrders p) (not-true (atStart p || hasOrders p) (granted _ good .0))
 
     pub task-room : length (p .tasks) < 128
     task-room = ltb-true _ _ (both-left (ltb (length (p .tasks)) 128) (leb (length xs) 4) (in-range .1))
@@ -215,8 +220,8 @@ module _ (p : Plan) (label : List ℕ) (cost : ℕ) (xs : List Access) {t : Plac
 -- and its row is the one in hand
 pub task-row : (p : Plan) (label : List ℕ) (cost : ℕ) (xs : List Access) (at : ℕ) {a : Accesses} {row : List ℕ}
     → Reads (bare at label cost) (seen xs) a row
-    → firstRefusal (taskLine p (record { label = label; cost = cost; accesses = xs }) .asks) ≡ none
-    → row ≡ rowOf (record { at = at; task = record { label = label; cost = cost; accesses = xs } })
+    → firstRefusal (taskLine p (taskOf label cost xs) .asks) ≡ none
+    → row ≡ rowOf (record { at = at; task = taskOf label cost xs })
 task-row p label cost xs at so good =
     let range = in-range p label cost xs so good .0 in
     let low = leb-true cost 1000 (both-left (leb cost 1000) (lowAddresses xs) range) in

@@ -1,15 +1,16 @@
 -- Lines that are read whole: what was read of their numbers says which fields they have, and how they are judged. Assumes nothing.
-use Prim.Native.Nat.{ℕ, _+_, _*_, _^_, _≤_, _<_}
+use Prim.Native.Nat.{ℕ, _+_, _*_, _%_, _^_, _≤_, _<_}
 use mathlib.Core.Path.{_≡_, refl, sym, ap, _∙_}
 use mathlib.Core.Bool.{Bool, true, false, not, _&&_, _||_, Bool·not-not}
 use mathlib.Core.List.{List, [], _∷_, _++_, append-assoc, append-nil}
 use mathlib.Core.Option.{Option, none, some, Option·map}
 use native.Mathlib.Omega.{arith}
-use lib.Dec.{eqb, leb, ltb}
+use lib.Dec.{eqb, leb, ltb, leb·suc-suc}
 use lib.ListN.{length, drop}
+use lib.Pow.{pow-mono, shl-exact}
 use borrow.Author.Tests.{le-leb, lt-leb, le-ltb, lt-ltb, leb-true, leb-false, ltb-true, ltb-false, not-false}
 use Rattle.refusals.specs.declared.Refusal.{Refusal}
-use Rattle.refusals.specs.declared.Refusal.the-variants.{OutOfRange, Misplaced, TooFewSlots}
+use Rattle.refusals.specs.declared.Refusal.the-variants.{OutOfRange, Misplaced}
 use Rattle.text.specs.declared.read.Number.{Number}
 use Rattle.text.specs.declared.read.Number.the-variants as numbers
 use Rattle.text.specs.Text.{tab, within, numberOf}
@@ -21,15 +22,17 @@ use Rattle.text.specs.Fields.{First, unended, first, behind, firstLine, goesOn,
 use Rattle.text.specs.FieldLaws.{fields-none, fields-more, fields-endless, fields-reach, line-parts, some-part}
 use Rattle.plan.specs.declared.form.Form.{Form}
 use Rattle.plan.specs.declared.form.Form.the-variants as forms
-use Rattle.plan.specs.Plan.{Order, picks, seeded, slotsOf, Plan}
+use Rattle.plan.specs.Plan.{Order, picks, seeded, Plan}
 use Rattle.plan.specs.Line as plans
-use Rattle.plan.specs.Line.{ask, atStart, sizesInRange, workersLine, orderLine, oneNumber, withBoth, twoNumbers, inForm}
+use Rattle.plan.specs.Line.{ask, atStart, hasOrders, endsUnmasked, sizesInRange, workersLine, maskLine, orderLine}
+use Rattle.plan.specs.Line.{oneNumber, withBoth, twoNumbers, inForm}
 use Rattle.plan.specs.Reading.{firstRefusal}
-use Rattle.plan.specs.Accepted.{granted}
+use Rattle.plan.specs.Accepted.{granted, ends-some}
 use Rattle.kept.specs.Layout as layout
 use Rattle.kept.specs.Orders.{codeOf, seedOf}
 use Rattle.lines.specs.declared.line.Fault.{Fault}
 use Rattle.lines.specs.declared.line.Fault.the-variants.{Nothing, Is}
+use Rattle.lines.specs.declared.line.Kind.the-variants as kinds
 use Rattle.lines.specs.declared.line.Sofar.{Sofar}
 use Rattle.lines.specs.declared.line.Line.{Line}
 use Rattle.lines.specs.Lines.{Sums, faultOf, faultIn, firstFault, wrongLine}
@@ -278,18 +281,17 @@ abbrev pub firstOf : Fault → Fault → Fault
 firstOf Nothing next = next
 firstOf (Is r) next = Is r
 
--- a W line: the third that is asked of it is judged last
-pub workers-fault : (p : Plan) (n : ℕ) (form : Form) (misplaced out : Bool) (fault last : Fault) → misplaced ≡ not (atStart p)
-    → out ≡ not (within 1 32 n && sizesInRange form) → fault ≡ firstFault misplaced out
-    → last ≡ faultOf (firstRefusal (ask (leb n (slotsOf form)) TooFewSlots ∷ [])) → firstOf fault last ≡ faultIn (workersLine p n form)
+-- the third that is asked of a line is judged last
+pub third-fault : (place range third : Bool) (why : Refusal) (misplaced out : Bool) (fault last : Fault) → misplaced ≡ not place
+    → out ≡ not range → fault ≡ firstFault misplaced out → last ≡ faultOf (firstRefusal (ask third why ∷ []))
+    → firstOf fault last ≡ faultOf (firstRefusal (ask place Misplaced ∷ ask range OutOfRange ∷ ask third why ∷ []))
 unfolding firstRefusal
-workers-fault p n form misplaced out fault last place range e f =
-    rw (f, e, fault-is (atStart p) (within 1 32 n && sizesInRange form) misplaced out place range)
-    (by (atStart p) (within 1 32 n && sizesInRange form) (leb n (slotsOf form)))
+third-fault place range third why misplaced out fault last a b e f =
+    rw (f, e, fault-is place range misplaced out a b) (by place range third)
   where
     by : (a b c : Bool)
-        → firstOf (faultOf (firstRefusal (ask a Misplaced ∷ ask b OutOfRange ∷ []))) (faultOf (firstRefusal (ask c TooFewSlots ∷ [])))
-        ≡ faultOf (firstRefusal (ask a Misplaced ∷ ask b OutOfRange ∷ ask c TooFewSlots ∷ []))
+        → firstOf (faultOf (firstRefusal (ask a Misplaced ∷ ask b OutOfRange ∷ []))) (faultOf (firstRefusal (ask c why ∷ [])))
+        ≡ faultOf (firstRefusal (ask a Misplaced ∷ ask b OutOfRange ∷ ask c why ∷ []))
     by true true c = refl
     by true false c = refl
     by false b c = refl
@@ -392,6 +394,33 @@ module _ (p : Plan) (n : ℕ) (form : Form) (next : ℕ) where
             let low = in-range (granted (workersLine p n form .asks) h .1 .0) in
             (rw (low .0, low .2), rw (low .0) (low .1));
       })
+
+-- a mask, as 64 bits hold it
+module _ (m n : ℕ) (is : n ≡ clipped m) where
+  pub mask-range : (p : Plan) (workers : ℕ) → workers ≤ 32 → workers ≡ p .workers
+      → leb (1 * 2 ^ workers % 2 ^ 64) n ≡ not (ltb m (2 ^ p .workers))
+  mask-range p workers few e =
+      let top : 2 ^ workers ≤ 2 ^ 32 = pow-mono few in
+      let whole : 1 * 2 ^ workers % 2 ^ 64 ≡ 2 ^ workers = omega (arith, shl-exact {a = 1} 1 workers 64 (omega arith) (omega arith)) in
+      rw (whole, is, ← e) (above-clipped m (2 ^ workers) (omega arith))
+
+  pub some-bit : ltb 0 n ≡ ltb 0 m
+  some-bit = rw is (above-clipped m 1 (omega arith) ∙ ap not (leb·suc-suc m 0) ∙ sym (above-below 0 m))
+
+  pub mask-judged : (p : Plan) → p .workers ≤ 32 → (next : ℕ) (fault : Fault) → fault ≡ faultIn (maskLine p m)
+      → Judged p (maskLine p m) next (record { kind = kinds.Mask; first = n; second = 0; fault = fault; next = next; more = false })
+  mask-judged p few next fault judged =
+      record {
+        after = refl;
+        ended = refl;
+        whole = tt;
+        judged = judged;
+        makes = λ h.
+            let asked = granted (maskLine p m .asks) h in
+            let top : 2 ^ p .workers ≤ 2 ^ 32 = pow-mono few in
+            let same : n ≡ m = is ∙ low-clipped m (omega (arith, ltb-true m (2 ^ p .workers) (asked .1 .0))) in
+            (rw same, ends-some (p .tasks) (both-right (not (hasOrders p)) (endsUnmasked (p .tasks)) (asked .0)));
+      }
 
 -- an order line, where the place of a line is told
 module _ (p : Plan) (misplaced : Bool) (at-start : misplaced ≡ atStart p) (next : ℕ) where

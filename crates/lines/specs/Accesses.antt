@@ -13,6 +13,7 @@ use Rattle.kept.specs.Tasks.{Placed, rowOf}
 use Rattle.lines.specs.declared.line.Fault.{Fault}
 use Rattle.lines.specs.declared.line.Fault.the-variants.{Nothing, Is}
 use Rattle.lines.specs.declared.accesses.Accesses.{Accesses}
+use Rattle.lines.specs.Lines.{taskOf}
 
 -- four are kept, and five are counted
 abbrev pub counted : ℕ → ℕ
@@ -26,7 +27,7 @@ abbrev pub touches : List Access → ℕ → Bool
 touches xs address = not (every (λ a. not (eqb (a .address) address)) xs)
 
 abbrev pub withAccesses : Placed → List Access → Placed
-withAccesses t xs = record { at = t .at; task = record { label = t .task .label; cost = t .task .cost; accesses = xs } }
+withAccesses t xs = record { at = t .at; task = taskOf (t .task .label) (t .task .cost) xs }
 
 -- xs is read of the accesses of t, whose row is in hand
 pub record Reads (t : Placed) (xs : List Access) (a : Accesses) (row : List ℕ) : Type 0 where

@@ -12,6 +12,7 @@ abbrev pub faultBy : Kind → Fault → Accesses → ℕ → Fault
 faultBy kinds.Wrong fault a n = fault
 faultBy (kinds.Workers form) fault a n = fault
 faultBy kinds.Task fault a n = taskFault fault a n
+faultBy kinds.Mask fault a n = fault
 faultBy kinds.Order fault a n = fault
 
 abbrev pub judged : Line → Accesses → ℕ → Fault

@@ -20,6 +20,7 @@ pub fn judge(line: Line, a: Accesses, tasks: usize) -> Fault
         Kind::Wrong => fault,
         Kind::Workers(_) => fault,
         Kind::Task => judge_task(fault, a, tasks),
+        Kind::Mask => fault,
         Kind::Order => fault,
     }
 }

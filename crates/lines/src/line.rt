@@ -6,7 +6,8 @@ ghost use lib.ListN.{length};
 ghost use Rattle.text.specs.Text.{within};
 ghost use Rattle.text.specs.Fields.{clipped};
 ghost use Rattle.plan.specs.Plan.{Order, Plan};
-ghost use Rattle.plan.specs.Line.{oneNumber, twoNumbers, inForm, atStart, sizesInRange, workersLine, roundsLine, picksLine, seededLine};
+ghost use Rattle.plan.specs.Line.{oneNumber, twoNumbers, inForm, atStart, afterTask, sizesInRange};
+ghost use Rattle.plan.specs.Line.{workersLine, maskLine, roundsLine, picksLine, seededLine};
 ghost use Rattle.kept.specs.Layout as lay;
 ghost use Rattle.lines.specs.Lines.{Sums, wrongLine, isWrong, faultIn, firstFault, Whole, readWorkers, secondForm, Ordered, Coded, countLine};
 ghost use Rattle.lines.specs.Lines.{bareRow, TaskHead, LineAt};
@@ -26,6 +27,8 @@ use text::read::read_number;
 const W: u64 = 87;
 
 const T: u64 = 84;
+
+const M: u64 = 77;
 
 const P: u64 = 80;
 
@@ -59,20 +62,23 @@ pub enum Kind {
     Wrong,
     Workers(Form),
     Task,
+    Mask,
     Order,
 }
 
-// What the lines so far come to: the workers (0 before the W line) and the form, how many tasks, how many order lines.
+// What the lines so far come to: the workers (0 before the W line) and the form, how many tasks, how many order lines, and whether the last
+// line is a task's, after which alone an M line may stand.
 pub struct Sofar {
     pub workers: u64,
     pub form: Form,
     pub tasks: usize,
     pub orders: usize,
+    pub after_task: bool,
 }
 
-// A line as it was read: its fault, and the place after it. The numbers are the workers, or what is kept of an order line. Of a task's line
-// the accesses are still to be read: `more` says whether there is one, and the fault is that of its place and its cost. A line that is not of
-// its form is left at the byte that shows it, without a place: `more` says whether the line goes on there.
+// A line as it was read: its fault, and the place after it. The numbers are the workers, the mask, or what is kept of an order line. Of a
+// task's line the accesses are still to be read: `more` says whether there is one, and the fault is that of its place and its cost. A line
+// that is not of its form is left at the byte that shows it, without a place: `more` says whether the line goes on there.
 pub struct Line {
     pub kind: Kind,
     pub first: u64,
@@ -105,6 +111,7 @@ pub fn is_wrong(line: Line) -> bool
         Kind::Wrong => true,
         Kind::Workers(_) => false,
         Kind::Task => false,
+        Kind::Mask => false,
         Kind::Order => false,
     }
 }
@@ -260,6 +267,51 @@ fn workers_line(text: &[u8], at: usize, sofar: Sofar, looks: &mut u64) -> Line
     }
 }
 
+// The fault of an M line: its place, a bit that is no worker's, and then no bit at all.
+fn mask_fault(mask: u64, workers: u64, misplaced: bool) -> Fault
+    requires { ⌜ workers ≤ 32 ⌝ }
+    ensures { λ r. ⌜ ((p : Plan) (m : ℕ) → workers ≡ p .workers → mask ≡ clipped m → misplaced ≡ not (afterTask p)
+        → r ≡ faultIn (maskLine p m)) ⌝ }
+{
+    let fault = first_fault(misplaced, 1u64 << workers <= mask);
+    if let Fault::Is(_) = fault {
+        return fault;
+    }
+    if mask == 0 {
+        return Fault::Is(Refusal::EmptyMask);
+    }
+    fault
+}
+
+// M: which workers may run the task before.
+fn mask_line(text: &[u8], at: usize, sofar: Sofar, looks: &mut u64) -> Line
+    requires { ⌜ (at ≤ length (now text)) × (sofar .workers ≤ 32) × (now looks ≡ at) ⌝ }
+    ensures { λ r. ⌜ ((p : Plan) → Sums sofar p → Whole (now (text .entry)) at p (oneNumber (maskLine p)) r (now (looks .exit))) ⌝ }
+{
+    match read_number(text, at, looks) {
+        Number::Malformed => wrong(true),
+        Number::MalformedAtEnd => wrong(false),
+        Number::Is {
+            value: mask,
+            fits: _,
+            next,
+            more,
+        } => {
+            if more {
+                return wrong(true);
+            }
+            Line {
+                kind: Kind::Mask,
+                first: mask,
+                second: 0,
+                fault: mask_fault(mask, sofar.workers, !sofar.after_task),
+                next,
+                more: false,
+            }
+        }
+    }
+}
+
 // An order line: the count, who is picked, and the seed.
 fn order_line(n: u64, who: u64, seed: u64, misplaced: bool, out: bool, next: usize) -> Line
     requires { ⌜ (out ≡ false → (n ≤ 1000000) × (who < lay.who)) ⌝ }
@@ -399,7 +451,7 @@ fn begin_row(row: &mut [u64], place: usize, size: usize, cost: u64)
     requires { ⌜ length (now row) ≡ lay.taskRow ⌝ }
     ensures { λ r. ⌜ now (row .exit) ≡ bareRow place size cost ⌝ }
 {
-    let mut k: usize = layout::COUNT;
+    let mut k: usize = layout::MASK;
     while k < layout::TASK_ROW {
         row[k] = 0;
         k += 1;
@@ -466,6 +518,7 @@ pub fn read_line(text: &[u8], at: usize, sofar: Sofar, row: &mut [u64], looks: &
     match letter {
         W => workers_line(text, at + 2, sofar, looks),
         T => task_line(text, at + 2, sofar, row, looks),
+        M => mask_line(text, at + 2, sofar, looks),
         P => picks_line(text, at + 2, sofar, looks),
         R => rounds_line(text, at + 2, sofar, looks),
         S => seeded_line(text, at + 2, sofar, looks),

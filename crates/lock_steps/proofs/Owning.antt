@@ -1,48 +1,39 @@
 -- The steps of an owner: it serves waiters, takes a task for itself, hands over and leaves.
-use Prim.Native.Nat.{ℕ, suc, _+_, _-_, _%_, _≤_, _<_}
+use Prim.Native.Nat.{ℕ, suc, _+_, _%_, _≤_, _<_}
 use native.Mathlib.Omega.{arith}
 use native.Mathlib.Numerals.{add-one}
-use native.Mathlib.Nat.{mod-lt, mod-eq-of-lt}
+use native.Mathlib.Nat.{mod-lt}
 use mathlib.Core.Path.{_≡_, refl, sym, ap, ap₂, _∙_}
-use mathlib.Core.Logic.{_⊎_, ⊎-elim, _≢_}
-use mathlib.Core.List.{List, [], _∷_}
+use mathlib.Core.Logic.{⊎-elim, _≢_}
+use mathlib.Core.List.{List}
 use mathlib.Core.Option.{Option, none, some}
-use lib.ListN.{length, getD}
+use lib.ListN.{length, getD, drop}
 use lib.Seq.{getD-set-same, getD-set-other}
 use Rattle.runs.specs.Update.{same, upd, upd-same, upd-other}
 use Rattle.lock.specs.Lock as L
 use Rattle.lock.specs.declared.Ends.{Ends}
-use Rattle.runs.specs.Circular.{entries}
+use Rattle.runs.specs.Circular.{entries, entries-same, shifted, shifted-length}
+use Rattle.plan.specs.Plan.{Task}
 use Rattle.tasks.specs.History as TH
+use Rattle.memory.specs.Layout.{mostTasks}
 use Rattle.memory.specs.Memory as T
-use Rattle.runs.specs.Circular.{entries-none, entries-cons, entries-same, entries-mod}
 use Rattle.machine.specs.State.{Place, idle, serving, handing, leaving}
-use Rattle.machine.specs.Event.{Handed, handedBy, Event, fills, takes, takesNone, handsOver, leaves, event}
+use Rattle.machine.specs.Event.{Handed, handedBy, Event, fills, takes, takesNone, handsOver, leaves, may, choice, taking, event}
 use Rattle.machine.specs.Step.{lockOp, taskOp, effect, giverAfter, lockAfter}
-use Rattle.machine.specs.Events.{event-fill, event-take-alone, event-take-served, event-take-none, event-hand-over, event-leave}
-use Rattle.steps.specs.Layout.{SERVING, HANDING, LEAVING, IDLE, READY, GIVERS}
+use Rattle.machine.specs.Ready.{nothing, choose-nowhere}
+use Rattle.machine.specs.Events.{event-fill, event-take-alone, event-take-served, event-stop, event-hand-over, event-leave}
+use Rattle.steps.specs.Layout.{SERVING, HANDING, LEAVING, IDLE, READY, GIVERS, MASKS}
 use Rattle.steps.specs.declared.Counts.{Counts}
-use Rattle.steps.specs.Memory.{part, station, Stationed, Slotted, Memory, withEnds, oneTaken, Given, Able}
+use Rattle.steps.specs.Memory.{part, station, Stationed, Slotted, Memory, withEnds, oneTaken, Given, Masked, Able}
+use Rattle.steps.specs.Ready.{readyIn, without, FallsFor}
 use Rattle.steps.proofs.Acting.{acts-hold, tasks-still, own-stationed}
+use Rattle.steps.proofs.Choosing.{behind, listed-length, task-known, choice-on, choice-off}
 use Rattle.lock_steps.specs.Lent.{lockIn, handedIn, withHanded, withServed}
 use Rattle.lock_steps.specs.Going.{Gone, Received, givenBy, handedOn}
 use Rattle.lock_steps.proofs.FromLock.{slots-are, Filled, lockWith, after-fill, after-pass, after-leave}
 use Rattle.lock_steps.proofs.Stepping.{tasks-of, codeIn, numberIn, Leads, workers-few, tasks-few, place-is, goes, tasks-after}
 
--- the first of the ready tasks and those behind it
-first-entry : (list : List ℕ) (at n : ℕ) (is : List ℕ) → at < READY → 0 < n → entries (λ k. getD list k 0) READY at n ≡ is
-    → (rest : List ℕ) × (is ≡ getD list at 0 ∷ rest) × (entries (λ k. getD list k 0) READY ((at + 1) % READY) (n - 1) ≡ rest)
-first-entry list at n is small any e =
-    let slot : ℕ → ℕ = λ k. getD list k 0 in
-    let back : n ≡ suc (n - 1) = omega arith in
-    let first : slot (at % READY) ≡ slot at = ap slot (mod-eq-of-lt small) in
-    let rest = entries slot READY (suc at) (n - 1) in (
-      rest,
-      sym e ∙ ap (entries slot READY at) back ∙ entries-cons slot READY at (n - 1) ∙ ap (λ (x : ℕ). x ∷ rest) first,
-      rw (add-one at) (entries-mod slot READY (suc at) (n - 1)),
-    )
-
--- a giver stands behind the slots of the ready list, and at its task's number
+-- a giver stands behind the slots of the ready list and before the masks, and at its task's number
 list-still : (device : List ℕ) (task giver at n : ℕ)
     → entries (λ k. getD (givenBy device task giver) k 0) READY at n ≡ entries (λ k. getD device k 0) READY at n
 list-still device task giver at n =
@@ -61,6 +52,11 @@ given-set device tasks before task giver room given i l =
     rw (upd-other before task (some giver) i d)
     (getD-set-other device (GIVERS + task) (GIVERS + i) (giver + 1) 0 (λ e. d (omega arith)) ∙ given i l))
     (same i task)
+
+masks-still : (device : List ℕ) (W : ℕ) (ts : List Task) (task giver : ℕ) → task < mostTasks
+    → Masked W ts device → Masked W ts (givenBy device task giver)
+masks-still device W ts task giver few masks i l =
+    getD-set-other device (GIVERS + task) (MASKS + i) (giver + 1) 0 (λ e. omega arith) ∙ masks i l
 
 -- the device holds a task out, whoever does it
 abbrev pub HeldOut : (rows after : List ℕ) → ℕ → Type 0
@@ -92,22 +88,24 @@ module _ {m : Memory} {own : List ℕ} {w : ℕ} (a : Able m own w) where
   pub handed-few : (h : Handed) → handedIn (m .counts .slots) lockHere w ≡ some h → h .task < 128
   handed-few h e = tasks-few (a .fit) (h .task) (a .fit .handed h (sym hands-on ∙ e))
 
-  -- the ready list and the givers in the device's array, with what is handed over
+  -- the ready list, the givers and the masks in the device's array, with what is handed over
   list-on : (o : Option Handed)
       → entries (λ k. getD (handedOn (m .device) o) k 0) READY (m .counts .«ready_at») (m .counts .ready) ≡ a .s .readyList
   list-on none = a .holds .device .ready
   list-on (some h) =
       list-still (m .device) (h .task) (h .by) (m .counts .«ready_at») (m .counts .ready) ∙ a .holds .device .ready
 
-  given-on : (task giver : ℕ) → task < length (a .c .tasks)
-      → Given (length (a .c .tasks)) (givenBy (m .device) task giver) (upd (a .s .giver) task (some giver))
-  given-on task giver below =
-      given-set (m .device) (length (a .c .tasks)) (a .s .giver) task giver
-      (omega (arith, a .long .device, tasks-few (a .fit) task below)) (a .holds .device .givers)
-
   givers-on : (o : Option Handed) → handsOn ≡ o → Given (length (a .c .tasks)) (handedOn (m .device) o) (giverAfter (a .c) (a .s) o)
   givers-on none e = a .holds .device .givers
-  givers-on (some h) e = given-on (h .task) (h .by) (a .fit .handed h e)
+  givers-on (some h) e =
+      given-set (m .device) (length (a .c .tasks)) (a .s .giver) (h .task) (h .by)
+      (omega (arith, a .long .device, tasks-few (a .fit) (h .task) (a .fit .handed h e))) (a .holds .device .givers)
+
+  masks-on : (o : Option Handed) → handsOn ≡ o → Masked (a .c .workers) (a .c .tasks) (handedOn (m .device) o)
+  masks-on none e = a .holds .device .masks
+  masks-on (some h) e =
+      masks-still (m .device) (a .c .workers) (a .c .tasks) (h .task) (h .by) (tasks-few (a .fit) (h .task) (a .fit .handed h e))
+      (a .holds .device .masks)
 
   -- the memory with that, and with other ends of the lock and a wait slot written
   abbrev handedMemory : Ends → List ℕ → Memory
@@ -130,10 +128,10 @@ module _ {m : Memory} {own : List ℕ} {w : ℕ} (a : Able m own w) where
         → lockWith a (r .ends) written (m .registrations) (m .tickets) (m .cells) ≡ lockAfter (a .c) (a .s .lock) w (lockOp e)
         → (next : List ℕ) → part next ≡ part own → Stationed (station next) to (a .s .queue w) → Slotted (a .c .slots) (station next) to
         → Leads a (withHanded m r written (m .registrations) (m .tickets) (m .cells) device) next
-    hands-and-goes e is nothing to effects after next kept there slot =
+    hands-and-goes e is no-task to effects after next kept there slot =
         rw handed-memory
         (acts-hold (a .holds) e is (handedMemory (r .ends) written) next after
-        (tasks-still (a .holds) e is own next (a .lent) kept nothing)
+        (tasks-still (a .holds) e is own next (a .lent) kept no-task)
         (refl, refl, refl)
         (rw effects there)
         (rw effects slot)
@@ -141,6 +139,7 @@ module _ {m : Memory} {own : List ℕ} {w : ℕ} (a : Able m own w) where
         (a .holds .device .ready-at)
         (rw effects (list-on handsOn))
         (rw effects (givers-on handsOn refl))
+        (masks-on handsOn refl)
         refl)
 
     pub hand-acts : codeIn own ≡ HANDING → (next : List ℕ) → Gone own next SERVING (numberIn own + 1)
@@ -166,80 +165,123 @@ module _ {m : Memory} {own : List ℕ} {w : ℕ} (a : Able m own w) where
     pub serving-few : numberIn own < 32
     serving-few = workers-few (a .fit) (numberIn own) (rw serves at (a .fit .place))
 
-    -- none is ready
-    pub none-acts : m .counts .ready ≡ 0 → (next : List ℕ) → Gone own next LEAVING 0
-        → Leads a m next
-    none-acts z next gone =
-        let none-listed = rw z at (a .holds .device .ready) in
-        let empty : a .s .readyList ≡ [] = sym none-listed ∙ entries-none (λ j. getD (m .device) j 0) READY (m .counts .«ready_at») in
-        goes a takesNone (event-take-none (a .c) (a .s) w serves empty) refl leaving refl
+    pub waiter-few : (v : ℕ) → L.front (a .c .slots) (a .s .lock) ≡ some v → v < 32
+    waiter-few v waiter = workers-few (a .fit) v (a .fit .front v waiter)
+
+    -- ---- it serves nobody: it takes what it may run
+
+    abbrev pub Takes : Type 0
+    Takes = event (a .c) (a .s) w ≡ taking (a .c) (a .s) (choice (a .c) (a .s) w)
+
+    pub takes-alone : L.front (a .c .slots) (a .s .lock) ≡ none → Takes
+    takes-alone nobody = event-take-alone (a .c) (a .s) w serves nobody
+
+    pub takes-served : m .counts .workers ≤ numberIn own + 1 → Takes
+    takes-served enough = event-take-served (a .c) (a .s) w serves (omega (arith, a .holds .device .workers))
+
+    -- the front waiter may run nothing that is ready
+    pub takes-stopped : (v k : ℕ) → L.front (a .c .slots) (a .s .lock) ≡ some v → FallsFor (m .counts) (m .device) v k → m .counts .ready ≤ k
+        → Takes
+    takes-stopped v k waiter found past = event-stop (a .c) (a .s) w serves waiter (choice-off a v k (a .fit .front v waiter) found past)
+
+    -- nothing is ready
+    takes-empty : ((v : ℕ) → choice (a .c) (a .s) v ≡ nothing) → Takes
+    takes-empty nothing-for = go (L.front (a .c .slots) (a .s .lock)) refl
+      where
+        go : (o : Option ℕ) → L.front (a .c .slots) (a .s .lock) ≡ o → Takes
+        go none e = takes-alone e
+        go (some v) e = event-stop (a .c) (a .s) w serves e (nothing-for v)
+
+    -- it takes none
+    takes-none : Takes → choice (a .c) (a .s) w ≡ nothing → (next : List ℕ) → Gone own next LEAVING 0 → Leads a m next
+    takes-none takes-it none-chosen next gone =
+        goes a takesNone (takes-it ∙ ap (taking (a .c) (a .s)) none-chosen) refl leaving refl
         (m .counts .ends) (m .wait) (m .registrations) (m .tickets) (m .cells) (a .holds .lock)
         next (gone .kept) (gone .there _ _ _ (own-stationed a) refl) tt
 
-    -- the first ready task goes to the front waiter, or the owner takes it
-    module _ (any : 0 < m .counts .ready) where
-      abbrev task : ℕ
-      task = getD (m .device) (m .counts .«ready_at») 0
+    pub empty-acts : m .counts .ready ≡ 0 → (next : List ℕ) → Gone own next LEAVING 0 → Leads a m next
+    empty-acts z next gone =
+        let nothing-for : (v : ℕ) → choice (a .c) (a .s) v ≡ nothing =
+        λ v. choose-nowhere (may (a .c) v) (a .s .readyList) (λ j l. absurd (omega (arith, listed-length a))) in
+        takes-none (takes-empty nothing-for) (nothing-for w) next gone
 
-      abbrev taken : Counts
-      taken = oneTaken (m .counts)
+    pub none-acts : (k : ℕ) → Takes → FallsFor (m .counts) (m .device) w k → k ≡ m .counts .ready → (next : List ℕ)
+        → Gone own next LEAVING 0 → Leads a m next
+    none-acts k takes-it found past next gone =
+        takes-none takes-it (choice-off a w k (a .fit .worker) found (omega arith)) next gone
 
-      listed : (rest : List ℕ) × (a .s .readyList ≡ task ∷ rest)
-          × (entries (λ k. getD (m .device) k 0) READY (taken .«ready_at») (taken .ready) ≡ rest)
-      listed =
-          let device = a .holds .device in
-          first-entry (m .device) (m .counts .«ready_at») (m .counts .ready) (a .s .readyList) (device .ready-at) any (device .ready)
+    -- ---- the task at place k goes to the front waiter, or the owner takes it; `left` and r are what is left of the ready list
 
-      pub first-few : task < 128
-      first-few = let (rest, list-is, shorter) = listed in tasks-few (a .fit) task (a .fit .ready task rest list-is)
+    module _ (k task : ℕ) (there : k < m .counts .ready) (is : task ≡ getD (readyIn (m .counts) (m .device)) k 0)
+        (r : Counts) (left : List ℕ)
+        (out : ((r ≡ oneTaken (m .counts)) × (left ≡ shifted READY (m .counts .«ready_at») (m .device) k))
+        × ((readyIn r left ≡ without k (readyIn (m .counts) (m .device))) × (drop READY left ≡ drop READY (m .device)))) where
+      still : (j : ℕ) → READY ≤ j → getD left j 0 ≡ getD (m .device) j 0
+      still = behind (m .device) left (out .1 .1)
 
-      module _ (v : ℕ) (waiter : L.front (a .c .slots) (a .s .lock) ≡ some v) where
-        pub waiter-few : v < 32
-        waiter-few = workers-few (a .fit) v (a .fit .front v waiter)
+      shorter : readyIn (oneTaken (m .counts)) left ≡ without k (a .s .readyList)
+      shorter = rw (out .0 .0) at (out .1 .0) ∙ ap (without k) (a .holds .device .ready)
 
-        pub fill-acts : numberIn own + 1 < m .counts .workers → (stamped filled rows next : List ℕ)
-            → Filled (m .counts .ends) v task (m .tickets) stamped (m .cells) filled
-            → HeldOut (m .rows) rows task
-            → Gone own next HANDING (numberIn own)
-            → Leads a (withServed m taken (m .registrations) stamped filled (m .device) rows) next
-        fill-acts fewer stamped filled rows next fill held gone =
-            let (rest, list-is, shorter) = listed in
-            let e = fills (numberIn own) v task rest in
-            let is = event-fill (a .c) (a .s) w serves list-is waiter (omega (arith, a .holds .device .workers)) in
-            acts-hold (a .holds) e is (withServed m taken (m .registrations) stamped filled (m .device) rows) next
-            (after-fill a v task fill)
-            (tasks-after a e is (TH.holds task) refl rows next (rw (gone .kept) (held (tasks-of m) (part own) (m .counts .picks) w)))
-            (refl, refl, refl)
-            (gone .there (a .s .place w) (handing (numberIn own)) (a .s .queue w) (own-stationed a) (refl, refl))
-            tt
-            (λ u d. refl)
-            (mod-lt (m .counts .«ready_at» + 1) (omega arith))
-            shorter
-            (a .holds .device .givers)
-            refl
+      left-givers : Given (length (a .c .tasks)) left (a .s .giver)
+      left-givers i l = still (GIVERS + i) (omega arith) ∙ a .holds .device .givers i l
 
-      -- nobody waits at the front, or enough were served
-      abbrev pub Alone : Type 0
-      Alone = (L.front (a .c .slots) (a .s .lock) ≡ none) ⊎ (m .counts .workers ≤ numberIn own + 1)
+      left-masks : Masked (a .c .workers) (a .c .tasks) left
+      left-masks i l = still (MASKS + i) (omega arith) ∙ a .holds .device .masks i l
 
-      pub take-acts : Alone → (rows next : List ℕ) → Received (m .rows) own rows next task w (m .counts .picks) LEAVING
-          → Leads a (withServed m taken (m .registrations) (m .tickets) (m .cells) (givenBy (m .device) task w) rows) next
-      take-acts alone rows next got =
-          let (rest, list-is, shorter) = listed in
-          let e = takes task rest in
-          let is : event (a .c) (a .s) w ≡ e =
-          ⊎-elim
-          (λ nobody. event-take-alone (a .c) (a .s) w serves list-is nobody)
-          (λ enough. event-take-served (a .c) (a .s) w serves list-is (omega (arith, a .holds .device .workers)))
-          alone in
-          acts-hold (a .holds) e is (withServed m taken (m .registrations) (m .tickets) (m .cells) (givenBy (m .device) task w) rows) next
+      pub fill-acts : (v : ℕ) → L.front (a .c .slots) (a .s .lock) ≡ some v → FallsFor (m .counts) (m .device) v k
+          → numberIn own + 1 < m .counts .workers → (stamped filled rows next : List ℕ)
+          → Filled (m .counts .ends) v task (m .tickets) stamped (m .cells) filled
+          → HeldOut (m .rows) rows task
+          → Gone own next HANDING (numberIn own)
+          → Leads a (withServed m r (m .registrations) stamped filled left rows) next
+      fill-acts v waiter found fewer stamped filled rows next fill held gone =
+          let e = fills (numberIn own) v task (without k (a .s .readyList)) in
+          let is = event-fill (a .c) (a .s) w serves waiter (omega (arith, a .holds .device .workers))
+          (choice-on a v k (a .fit .front v waiter) found task there is) in
+          rw (out .0 .0)
+          (acts-hold (a .holds) e is (withServed m (oneTaken (m .counts)) (m .registrations) stamped filled left rows) next
+          (after-fill a v task fill)
+          (tasks-after a e is (TH.holds task) refl rows next (rw (gone .kept) (held (tasks-of m) (part own) (m .counts .picks) w)))
+          (refl, refl, refl)
+          (gone .there (a .s .place w) (handing (numberIn own)) (a .s .queue w) (own-stationed a) (refl, refl))
+          tt
+          (λ u d. refl)
+          (mod-lt (m .counts .«ready_at» + 1) (omega arith))
+          shorter
+          left-givers
+          left-masks
+          refl)
+
+      pub take-acts : Takes → FallsFor (m .counts) (m .device) w k → (rows next : List ℕ)
+          → Received (m .rows) own rows next task w (m .counts .picks) LEAVING
+          → Leads a (withServed m r (m .registrations) (m .tickets) (m .cells) (givenBy left task w) rows) next
+      take-acts takes-it found rows next got =
+          let e = takes task (without k (a .s .readyList)) in
+          let happens : event (a .c) (a .s) w ≡ e =
+          takes-it ∙ ap (taking (a .c) (a .s)) (choice-on a w k (a .fit .worker) found task there is) in
+          let known = task-known a k task there is in
+          let taken = oneTaken (m .counts) in
+          rw (out .0 .0)
+          (acts-hold (a .holds) e happens
+          (withServed m taken (m .registrations) (m .tickets) (m .cells) (givenBy left task w) rows) next
           (a .holds .lock)
-          (tasks-after a e is (TH.takes task) refl rows next (got .does (tasks-of m) .0))
+          (tasks-after a e happens (TH.takes task) refl rows next (got .does (tasks-of m) .0))
           (refl, refl, refl)
           (got .there (a .s .place w) leaving (a .s .queue w) (own-stationed a) refl)
           tt
           (λ u d. refl)
           (mod-lt (m .counts .«ready_at» + 1) (omega arith))
-          (list-still (m .device) task w (taken .«ready_at») (taken .ready) ∙ shorter)
-          (given-on task w (a .fit .ready task rest list-is))
-          refl
+          (list-still left task w (taken .«ready_at») (taken .ready) ∙ shorter)
+          (given-set left (length (a .c .tasks)) (a .s .giver) task w left-long left-givers)
+          (masks-still left (a .c .workers) (a .c .tasks) task w (tasks-few (a .fit) task known) left-masks)
+          refl)
+        where
+          left-long : GIVERS + task < length left
+          left-long =
+              omega (
+                arith,
+                ap length (out .0 .1),
+                shifted-length READY (m .counts .«ready_at») k (m .device),
+                a .long .device,
+                tasks-few (a .fit) task (task-known a k task there is),
+              )

@@ -86,6 +86,7 @@ module _ {m : Memory} {own : List ℕ} {w : ℕ} (a : Able m own w) where
         (a .holds .device .ready-at)
         (rw effects (a .holds .device .ready))
         (rw effects (a .holds .device .givers))
+        (a .holds .device .masks)
         refl
 
     -- the tasks after the event's operation on them

@@ -135,6 +135,7 @@ module _ {m : Memory} {own : List ℕ} {w : ℕ} (a : Able m own w) where
           (a .holds .device .ready-at)
           (a .holds .device .ready)
           (a .holds .device .givers)
+          (a .holds .device .masks)
           refl
 
   -- ---- a worker tries the lock

@@ -5,8 +5,8 @@ ghost use Prim.Native.Nat.{ℕ, _+_, _^_, _<_};
 ghost use lib.ListN.{length, getD};
 ghost use Rattle.lock.specs.Lock.{handOver};
 ghost use Rattle.memory.specs.Layout as layout;
-ghost use Rattle.steps.specs.Layout.{placeAt, SERVING, HANDING, LEAVING, READY, deviceSize};
-ghost use Rattle.steps.specs.Memory.{Memory, oneTaken, withEnds, Able, Acts};
+ghost use Rattle.steps.specs.Layout.{placeAt, SERVING, HANDING, LEAVING, deviceSize};
+ghost use Rattle.steps.specs.Memory.{Memory, withEnds, Able, Acts};
 ghost use Rattle.lock_steps.specs.Going.{givenBy, handedOn};
 ghost use Rattle.lock_steps.specs.Lent.{lockIn, handedIn, withHanded, withServed};
 use super::go_to;
@@ -21,20 +21,11 @@ use steps::layout::HANDING;
 use steps::layout::IDLE;
 use steps::layout::LEAVING;
 use steps::layout::NUMBER;
-use steps::layout::READY;
 use steps::layout::SERVING;
+use steps::ready::first_permitted;
+use steps::ready::take_out;
+use steps::ready::task_at;
 use steps::with_ends;
-
-// Without the first ready task.
-fn one_taken(n: Counts) -> Counts
-    requires { ⌜ (0 < n .ready) × (n .«ready_at» < READY) ⌝ }
-    ensures { λ r. ⌜ r ≡ oneTaken n ⌝ }
-{
-    let mut r = n;
-    r.ready_at = (n.ready_at + 1) % READY;
-    r.ready = n.ready - 1;
-    r
-}
 
 // Notes who gave a task: the number and 1 more.
 fn note_giver(device: &mut [u64], task: u64, giver: u64)
@@ -44,7 +35,7 @@ fn note_giver(device: &mut [u64], task: u64, giver: u64)
     device[GIVERS + task as usize] = giver + 1;
 }
 
-// Serves the front waiter with the first ready task, or takes that itself, or none.
+// Serves the front waiter with the first ready task that it may run, or takes the first that it may run itself, or none.
 pub fn serve_step(
     n: Counts,
     registrations: &[u64],
@@ -68,21 +59,30 @@ pub fn serve_step(
         go_to(own, LEAVING, 0);
         return n;
     }
-    let at = n.ready_at as usize;
-    let task = device[at];
     let served = own[NUMBER];
     if served + 1 < n.workers {
         let front = lock::front_waiter(n.slots, n.ends, registrations);
         if let Front::Waiter(waiter) = front {
-            lock::fill(n.ends, tickets, cells, waiter, task);
-            hold(rows, task);
-            go_to(own, HANDING, served);
-            return one_taken(n);
+            let k = first_permitted(n, device, waiter.0);
+            if k < n.ready {
+                let task = task_at(n, device, k);
+                lock::fill(n.ends, tickets, cells, waiter, task);
+                hold(rows, task);
+                go_to(own, HANDING, served);
+                return take_out(n, device, k);
+            }
         }
     }
+    let k = first_permitted(n, device, w);
+    if k == n.ready {
+        go_to(own, LEAVING, 0);
+        return n;
+    }
+    let task = task_at(n, device, k);
+    let left = take_out(n, device, k);
     receive_to(rows, own, task, w, n.picks, LEAVING);
     note_giver(device, task, w);
-    one_taken(n)
+    left
 }
 
 // Hands over, by the lock's answer: the task that the worker let in finds in its cell has its giver then.

@@ -6,6 +6,7 @@ use Rattle.runs.specs.Traces as Traces
 use Rattle.lock.specs.Lock as L
 use Rattle.lock.specs.History as LH
 use Rattle.plan.specs.Orders.{numbersFrom, times}
+use Rattle.plan.specs.Permits.{isSet, permits, anyMasked}
 use Rattle.tasks.specs.Accesses.{accesses, taskOf, first, reader, sameAddress, prev, next}
 use Rattle.tasks.specs.Flags.{passesRead, passesWrite, satisfied}
 use Rattle.tasks.specs.Tasks as T
@@ -13,6 +14,7 @@ use Rattle.tasks.specs.History as TH
 use Rattle.tasks.specs.Duties.{duty, creating}
 use Rattle.tasks.specs.Playing as P
 use Rattle.machine.specs.State.{start}
+use Rattle.machine.specs.Ready.{arrive, choose}
 use Rattle.machine.specs.Event.{handed, idling, servingOrTaking, standingAt}
 use Rattle.machine.specs.Step.{nextDrain, step, after}
 
@@ -20,5 +22,5 @@ unfoldable pub computing : Unit {0}
 unfolding upd everyBelow Traces.pick L.start L.takeTicket L.join L.workerIn L.register L.turn L.handOver L.front L.tells L.isFree L.fill
     L.look LH.after numbersFrom times lastBelow firstFrom accesses taskOf first reader sameAddress prev next passesRead passesWrite
     satisfied T.start TH.lowered TH.linkMessage TH.passed TH.doneMessages TH.after duty creating P.finished start handed idling
-    servingOrTaking standingAt nextDrain step after
+    isSet permits anyMasked arrive choose servingOrTaking standingAt nextDrain step after
 computing = tt

@@ -1,14 +1,17 @@
 -- What the picked worker does: it depends on where it stands.
 use Prim.Native.Nat.{ℕ, _-_}
-use mathlib.Core.Bool.{true, false}
+use mathlib.Core.Bool.{Bool, true, false}
 use mathlib.Core.List.{List, [], _∷_}
 use mathlib.Core.Option.{Option, none, some}
 use lib.ListN.{length}
 use lib.Dec.{eqb, ltb}
 use Rattle.lock.specs.Lock as L
+use Rattle.plan.specs.Permits.{permits}
+use Rattle.tasks.specs.Accesses.{taskAt}
 use Rattle.tasks.specs.History.{Duty}
 use Rattle.tasks.specs.Duties.{duty, creating}
 use Rattle.machine.specs.State.{Setup, Purpose, Place, idle, trying, registering, looking, draining, serving, handing, leaving, State}
+use Rattle.machine.specs.Ready.{Choice, nothing, chosen, choose}
 
 -- a task that a hand-over gives to its taker: by whom and to whom
 pub record Handed : Type 0 where
@@ -32,9 +35,9 @@ pub data Event : Type 0 where
   receives : (ticket task : ℕ) → Event
   owns : (ticket : ℕ) → Event
   drains : Purpose → (queue : ℕ) → Event
-  -- with so many served it fills the cell of a worker with the first ready task; the others
+  -- with so many served it fills the cell of a worker with the first ready task that this one may run; the others
   fills : (served worker task : ℕ) → List ℕ → Event
-  -- it takes the first ready task for itself, or none; the others
+  -- it takes the first ready task that it may run for itself, or none; the others
   takes : (task : ℕ) → List ℕ → Event
   takesNone : Event
   -- it hands over, and stays or leaves; the task that this gives to its taker, if any
@@ -44,6 +47,10 @@ pub data Event : Type 0 where
 -- how many an owner serves in one session at the most
 abbrev pub mostServed : Setup → ℕ
 mostServed c = c .workers - 1
+
+-- worker w may run task i
+abbrev pub may : Setup → ℕ → ℕ → Bool
+may c w i = permits (taskAt (c .tasks) i) w
 
 -- what there is to create comes before a ticket
 abbrev pub creatingFirst : Option Duty → Event
@@ -71,11 +78,24 @@ module _ (c : Setup) (s : State) where
   idling w none (i ∷ is) = elim (ltb (length (s .queue w)) (c .capacity)) [ true ↦ pushes i is | false ↦ findsFull ]
   idling w none [] = elim (eqb w 0) [ true ↦ creatingFirst (creating (c .tasks) (s .tasks .creation)) | false ↦ takesTicket ]
 
-  -- a task is ready, a registered front waiter exists and fewer than W - 1 were served: serve, else take
-  unfoldable pub servingOrTaking : ℕ → List ℕ → Option ℕ → Event
-  servingOrTaking n [] waiter = takesNone
-  servingOrTaking n (i ∷ is) none = takes i is
-  servingOrTaking n (i ∷ is) (some v) = elim (ltb n (mostServed c)) [ true ↦ fills n v i is | false ↦ takes i is ]
+  -- the first ready task that worker w may run
+  abbrev pub choice : ℕ → Choice
+  choice w = choose (may c w) (s .readyList)
+
+  -- an owner takes it for itself
+  abbrev pub taking : Choice → Event
+  taking nothing = takesNone
+  taking (chosen i is) = takes i is
+
+  -- worker w serves waiter v with what v may run; where there is nothing, it stops serving
+  abbrev pub servingWith : ℕ → ℕ → ℕ → Choice → Event
+  servingWith w n v nothing = taking (choice w)
+  servingWith w n v (chosen i is) = fills n v i is
+
+  -- a registered front waiter exists, fewer than W - 1 were served, and a task is ready that it may run: serve, else take
+  unfoldable pub servingOrTaking : ℕ → ℕ → Option ℕ → Event
+  servingOrTaking w n none = taking (choice w)
+  servingOrTaking w n (some v) = elim (ltb n (mostServed c)) [ true ↦ servingWith w n v (choice v) | false ↦ taking (choice w) ]
 
   abbrev pub seeing : ℕ → L.Look → Event
   seeing t L.notYet = waits
@@ -88,7 +108,7 @@ module _ (c : Setup) (s : State) where
   standingAt w (registering t) = registers t
   standingAt w (looking t) = seeing t (L.look (c .slots) (s .lock) t w)
   standingAt w (draining p k) = drains p k
-  standingAt w (serving n) = servingOrTaking n (s .readyList) (L.front (c .slots) (s .lock))
+  standingAt w (serving n) = servingOrTaking w n (L.front (c .slots) (s .lock))
   standingAt w (handing n) = handsOver n (handedBy w)
   standingAt w leaving = leaves (handedBy w)
 

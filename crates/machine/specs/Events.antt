@@ -2,16 +2,18 @@
 use Prim.Native.Nat.{ℕ, _≤_, _<_}
 use mathlib.Core.Path.{_≡_, refl}
 use mathlib.Core.Logic.{_≢_}
-use mathlib.Core.Bool.{true, false}
+use mathlib.Core.Bool.{Bool, true, false}
 use mathlib.Core.List.{List, [], _∷_}
 use mathlib.Core.Option.{Option, none, some}
 use lib.ListN.{length}
+use lib.Dec.{ltb}
 use borrow.Author.Tests.{eq-eqb, ne-eqb, lt-ltb, le-ltb}
 use Rattle.lock.specs.Lock as L
 use Rattle.tasks.specs.History.{Duty}
 use Rattle.tasks.specs.Duties.{duty, creating}
 use Rattle.machine.specs.State.{Setup, Purpose, idle, trying, registering, looking, draining, serving, handing, leaving, State}
-use Rattle.machine.specs.Event.{minds, pushes, findsFull, triesAndOwns, triesInVain, takesTicket, registers, waits, receives, owns, drains, fills, takes, takesNone, handsOver, leaves, mostServed, handedBy, idling, servingOrTaking, standingAt, event}
+use Rattle.machine.specs.Event.{minds, pushes, findsFull, triesAndOwns, triesInVain, takesTicket, registers, waits, receives, owns, drains, fills, handsOver, leaves, mostServed, handedBy, idling, choice, taking, servingWith, servingOrTaking, standingAt, event}
+use Rattle.machine.specs.Ready.{nothing, chosen}
 
 module _ (c : Setup) (s : State) (w : ℕ) where
   -- an idle worker that has a duty does it
@@ -69,29 +71,33 @@ module _ (c : Setup) (s : State) (w : ℕ) where
   unfolding standingAt
   event-drain e = rw e
 
-  pub event-fill : {n v i : ℕ} {is : List ℕ} → s .place w ≡ serving n → s .readyList ≡ i ∷ is → L.front (c .slots) (s .lock) ≡ some v
-      → n < mostServed c → event c s w ≡ fills n v i is
-  unfolding standingAt servingOrTaking
-  event-fill {n} p q f l = rw (p, standingAt, q, f, servingOrTaking, lt-ltb n (mostServed c) l)
+  module _ {n : ℕ} (p : s .place w ≡ serving n) where
+    pub event-fill : {v i : ℕ} {is : List ℕ} → L.front (c .slots) (s .lock) ≡ some v → n < mostServed c
+        → choice c s v ≡ chosen i is → event c s w ≡ fills n v i is
+    unfolding standingAt servingOrTaking
+    event-fill f l q = rw (p, standingAt, f, servingOrTaking, lt-ltb n (mostServed c) l, q)
 
-  -- a task is taken where nobody waits at the front, or enough were served
-  pub event-take-alone : {n i : ℕ} {is : List ℕ} → s .place w ≡ serving n → s .readyList ≡ i ∷ is → L.front (c .slots) (s .lock) ≡ none
-      → event c s w ≡ takes i is
-  unfolding standingAt servingOrTaking
-  event-take-alone p q f = rw (p, standingAt, q, f)
+    -- an owner takes where nobody waits at the front, where enough were served, and where the front waiter may run nothing that is ready
+    pub event-take-alone : L.front (c .slots) (s .lock) ≡ none → event c s w ≡ taking c s (choice c s w)
+    unfolding standingAt servingOrTaking
+    event-take-alone f = rw (p, standingAt, f)
 
-  pub event-take-served : {n i : ℕ} {is : List ℕ} → s .place w ≡ serving n → s .readyList ≡ i ∷ is → mostServed c ≤ n
-      → event c s w ≡ takes i is
-  unfolding standingAt servingOrTaking
-  event-take-served {n} {i} {is} p q l = rw (p, standingAt, q) (go (L.front (c .slots) (s .lock)))
-    where
-      go : (o : Option ℕ) → servingOrTaking c s n (i ∷ is) o ≡ takes i is
-      go none = refl
-      go (some v) = rw (servingOrTaking, le-ltb n (mostServed c) l)
+    pub event-take-served : mostServed c ≤ n → event c s w ≡ taking c s (choice c s w)
+    unfolding standingAt servingOrTaking
+    event-take-served l = rw (p, standingAt) (go (L.front (c .slots) (s .lock)))
+      where
+        go : (o : Option ℕ) → servingOrTaking c s w n o ≡ taking c s (choice c s w)
+        go none = refl
+        go (some v) = rw (servingOrTaking, le-ltb n (mostServed c) l)
 
-  pub event-take-none : {n : ℕ} → s .place w ≡ serving n → s .readyList ≡ [] → event c s w ≡ takesNone
-  unfolding standingAt servingOrTaking
-  event-take-none p q = rw (p, standingAt, q)
+    pub event-stop : {v : ℕ} → L.front (c .slots) (s .lock) ≡ some v → choice c s v ≡ nothing
+        → event c s w ≡ taking c s (choice c s w)
+    unfolding standingAt servingOrTaking
+    event-stop {v} f q = rw (p, standingAt, f) (go (ltb n (mostServed c)))
+      where
+        go : (b : Bool) → elim b [ true ↦ servingWith c s w n v (choice c s v) | false ↦ taking c s (choice c s w) ] ≡ taking c s (choice c s w)
+        go true = rw q refl
+        go false = refl
 
   pub event-hand-over : {n : ℕ} → s .place w ≡ handing n → event c s w ≡ handsOver n (handedBy c s w)
   unfolding standingAt

@@ -23,7 +23,7 @@ use Rattle.machine.specs.Computing.{computing}
 
 -- a task of no cost
 abbrev pub free : List Access → Task
-free xs = record { label = []; cost = 0; accesses = xs }
+free xs = record { label = []; cost = 0; accesses = xs; mask = none }
 
 abbrev pub reads : ℕ → Access
 reads address = record { writes = false; address = address }

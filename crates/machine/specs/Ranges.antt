@@ -3,17 +3,22 @@ use Prim.Native.Nat.{ℕ, _^_, _≤_, _<_}
 use native.Mathlib.Omega.{arith}
 use mathlib.Core.Path.{_≡_, refl, sym, ap, subst}
 use mathlib.Core.Logic.{inl, inr}
+use mathlib.Core.Bool.{Bool, true, false}
 use mathlib.Core.List.{List, [], _∷_}
 use mathlib.Core.Option.{Option, none, some}
 use lib.ListN.{length}
+use lib.Dec.{ltb}
+use Rattle.runs.specs.Counts.{count}
 use Rattle.lock.specs.Lock as L
 use Rattle.lock.specs.Promise as Lock
+use Rattle.plan.specs.Accepted.{MaskFormed}
 use Rattle.tasks.specs.Accesses.{taskAt}
 use Rattle.tasks.specs.History.{Duty}
 use Rattle.tasks.specs.Playing as P
 use Rattle.tasks.specs.Promise as Tasks
 use Rattle.machine.specs.State.{Setup, Place, idle, trying, registering, looking, draining, serving, handing, leaving, State, start, picked}
-use Rattle.machine.specs.Event.{Handed, handedBy, idling, servingOrTaking, standingAt, event}
+use Rattle.machine.specs.Event.{Handed, Event, mostServed, handedBy, idling, choice, taking, servingWith, servingOrTaking, standingAt, event}
+use Rattle.machine.specs.Ready.{Choice, nothing, chosen}
 use Rattle.machine.specs.Step.{taskOp, apply, step}
 use Rattle.machine.specs.View.{does}
 use Rattle.machine.specs.Whereabouts.{lockStand}
@@ -31,6 +36,7 @@ pub record Sized (c : Setup) : Type 0 where
   pub capacity : c .capacity ≤ 16
   pub tasks : length (c .tasks) ≤ 128
   pub accesses : (i : ℕ) → length (taskAt (c .tasks) i .accesses) ≤ 4
+  pub masks : (i : ℕ) → i < length (c .tasks) → MaskFormed (c .workers) (taskAt (c .tasks) i .mask)
 
 -- the numbers of a place
 abbrev pub Within : Setup → Place → Type 0
@@ -60,8 +66,9 @@ pub record Fit (c : Setup) (s : State) (w : ℕ) : Type 0 where
   pub head : s .lock .head < 2 ^ 43
   pub tail : s .lock .tail ≤ 2 ^ 43
   pub place : Within c (s .place w)
-  -- the first ready task, the front waiter, and the task that it finds in its cell when it is let in
-  pub ready : (i : ℕ) (is : List ℕ) → s .readyList ≡ i ∷ is → i < length (c .tasks)
+  -- the ready tasks, the front waiter, and the task that it finds in its cell when it is let in
+  pub ready : (i : ℕ) → 0 < count i (s .readyList) → i < length (c .tasks)
+  pub ready-few : length (s .readyList) ≤ 128
   pub front : (v : ℕ) → L.front (c .slots) (s .lock) ≡ some v → v < c .workers
   pub handed : (h : Handed) → handedBy c s w ≡ some h → h .task < length (c .tasks)
   -- queues within their capacity, and room for what the step adds to the ready list
@@ -77,11 +84,25 @@ module _ (c : Setup) (s : State) (w : ℕ) where
   idling-picked none (i ∷ is) = refl
   idling-picked none [] = refl
 
-  serving-picked : (n : ℕ) (is : List ℕ) (o : Option ℕ) → servingOrTaking c (picked s) n is o ≡ servingOrTaking c s n is o
+  taking-picked : (x : Choice) → taking c (picked s) x ≡ taking c s x
+  taking-picked nothing = refl
+  taking-picked (chosen i is) = refl
+
+  with-picked : (n v : ℕ) (x : Choice) → servingWith c (picked s) w n v x ≡ servingWith c s w n v x
+  with-picked n v nothing = taking-picked (choice c s w)
+  with-picked n v (chosen i is) = refl
+
+  serving-picked : (n : ℕ) (o : Option ℕ) → servingOrTaking c (picked s) w n o ≡ servingOrTaking c s w n o
   unfolding servingOrTaking
-  serving-picked n [] o = refl
-  serving-picked n (i ∷ is) none = refl
-  serving-picked n (i ∷ is) (some v) = refl
+  serving-picked n none = taking-picked (choice c s w)
+  serving-picked n (some v) = go (ltb n (mostServed c))
+    where
+      go : (b : Bool)
+          → _≡_ {A = Event}
+          (elim b [ true ↦ servingWith c (picked s) w n v (choice c s v) | false ↦ taking c (picked s) (choice c s w) ])
+          (elim b [ true ↦ servingWith c s w n v (choice c s v) | false ↦ taking c s (choice c s w) ])
+      go true = with-picked n v (choice c s v)
+      go false = taking-picked (choice c s w)
 
   standing-picked : (p : Place) → standingAt c (picked s) w p ≡ standingAt c s w p
   unfolding standingAt
@@ -90,7 +111,7 @@ module _ (c : Setup) (s : State) (w : ℕ) where
   standing-picked (registering t) = refl
   standing-picked (looking t) = refl
   standing-picked (draining p k) = refl
-  standing-picked (serving n) = serving-picked n (s .readyList) (L.front (c .slots) (s .lock))
+  standing-picked (serving n) = serving-picked n (L.front (c .slots) (s .lock))
   standing-picked (handing n) = refl
   standing-picked leaving = refl
 
@@ -158,6 +179,7 @@ module _ (c : Setup) (playable : Playable c) (sized : Sized c) where
           tail = omega (arith, head-within, Lock.ends (g .inv .locked));
           place = place-within (s .place w) refl;
           ready = ready-below c playable s (g .inv);
+          ready-few = omega (arith, ready-length c playable s (g .inv), sized .tasks);
           front = λ v f. ((Lock.front-iff (g .inv .locked) v) .0 f) .0;
           handed = handed-below c s (g .inv .locked) (g .inv .tasked) (g .inv .device) w;
           queues = g .bounds;

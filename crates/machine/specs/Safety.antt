@@ -9,6 +9,7 @@ pub mod Traces
 pub mod Invariant
 pub mod Histories
 pub mod Giving
+pub mod Permitted
 pub mod Turns
 pub mod Bounds
 pub mod Flags
@@ -21,6 +22,7 @@ use mathlib.Core.List.{List, [], _∷_, _++_}
 use mathlib.Core.Option.{Option, none, some}
 use lib.ListN.{length, take, drop, getElem?, length-take}
 use Rattle.runs.specs.Update.{order, upd}
+use Rattle.runs.specs.Traces.{tally-at}
 use Rattle.runs.specs.Picks.{Picks, picks-take, run, run-append, run-drop}
 use Rattle.lock.specs.History.{Owner}
 use Rattle.lock.specs.Promise as Lock
@@ -32,13 +34,14 @@ use Rattle.tasks.specs.Playing as P
 use Rattle.tasks.specs.Playing.{hasNotice}
 use Rattle.tasks.specs.Promise as Promise
 use Rattle.machine.specs.State.{Setup, State, start}
-use Rattle.machine.specs.Event.{Event, event}
+use Rattle.machine.specs.Event.{Event, may, event}
 use Rattle.machine.specs.Step.{taskOp, step, finished, pick, after}
 use Rattle.machine.specs.View.{Does, does}
 use Rattle.machine.specs.Trace.{Happening, trace, tally, isReceipt, isEnding, isWork}
 use Rattle.machine.specs.Whereabouts.{lockStand, stored, boxes, hands, leftInHands, places}
 use Rattle.machine.specs.Safety.Traces.{pick-finished, pick-open, run-finished, run-inv, picks-taken, taken-within, taken-all}
 use Rattle.machine.specs.Safety.Histories as R
+use Rattle.machine.specs.Safety.Permitted.{receipts-permitted}
 use Rattle.machine.specs.Safety.Bounds.{Roomy, roomy-start, roomy-step, ready-length, Small, small-start, small-step}
 use Rattle.machine.specs.Safety.Invariant.{Playable, Inv, may-do, inv-after}
 
@@ -140,6 +143,18 @@ module _ (c : Setup) (playable : Playable c) (ws : List ℕ) (p : Picks (c .work
     same-worker k h e l =
         ⊎-elim (λ (r : 0 < isReceipt i (h .what)). sym ((receipt-by k h e r) .0))
         (λ (r : isReceipt i (h .what) ≤ 0). sym ((ending-by k h e (omega arith)) .0)) (order 0 (isReceipt i (h .what)))
+
+    -- who receives a task may run it, and so may the worker that has run it or runs it
+    pub may-receive : (k : ℕ) (h : Happening) → getElem? (trace c (start c) ws) k ≡ some h → 0 < isReceipt i (h .what)
+        → may c (h .by) i ≡ true
+    may-receive = receipts-permitted c playable ws p i
+
+    pub may-run : ((after c ws) .tasks .status i ≡ running) ⊎ ((after c ws) .tasks .status i ≡ over)
+        → may c ((after c ws) .tasks .runner i) i ≡ true
+    may-run o =
+        let once : isReceived ((after c ws) .tasks .status i) ≡ 1 = ⊎-elim (ap isReceived) (ap isReceived) o in
+        let (k, h, e, l) = tally-at (isReceipt i) (trace c (start c) ws) (omega (arith, R.receipts c playable ws p i)) in
+        ap (λ (w : ℕ). may c w i) ((receipt-by k h e l) .0) ∙ may-receive k h e l
 
     -- a task that is over has one receipt and one ending
     pub run-by-one : (after c ws) .tasks .status i ≡ over

@@ -13,6 +13,7 @@ use Rattle.tasks.specs.History as TH
 use Rattle.tasks.specs.Playing as P
 use Rattle.machine.specs.State.{Setup, Purpose, forServing, forAdding, Place, idle, trying, registering, looking, draining, serving, handing, leaving, State, start, picked}
 use Rattle.machine.specs.Event.{Handed, Event, minds, pushes, findsFull, triesAndOwns, triesInVain, takesTicket, registers, waits, receives, owns, drains, fills, takes, takesNone, handsOver, leaves, event}
+use Rattle.machine.specs.Ready.{arrive}
 
 -- what an event is to the lock: one operation at the most
 abbrev pub lockOp : Event → Option LH.Op
@@ -94,7 +95,7 @@ module _ (c : Setup) where
     effect w (receives t i) = goes idle
     effect w (owns t) = goes (draining forServing 0)
     effect w (drains p k) =
-        record { place = nextDrain p k; queue = upd (s .queue) k []; readyList = s .readyList ++ s .queue k; giver = s .giver }
+        record { place = nextDrain p k; queue = upd (s .queue) k []; readyList = arrive (s .readyList) (s .queue k); giver = s .giver }
     effect w (fills n v i is) = record { place = handing n; queue = s .queue; readyList = is; giver = s .giver }
     effect w (takes i is) = record { place = leaving; queue = s .queue; readyList = is; giver = upd (s .giver) i (some w) }
     effect w takesNone = goes leaving

@@ -13,7 +13,8 @@ use Rattle.tasks.specs.Tasks as T
 use Rattle.tasks.specs.History.{Duty, CanMind}
 use Rattle.tasks.specs.Duties.{duty, creating, Duties, at-rest, has-duty, Creates, created, creates, duties, creating-goes}
 use Rattle.machine.specs.State.{Setup, Purpose, Place, idle, trying, registering, looking, draining, serving, handing, leaving, State, picked}
-use Rattle.machine.specs.Event.{Event, minds, pushes, findsFull, triesAndOwns, triesInVain, takesTicket, registers, waits, receives, owns, drains, fills, takes, takesNone, handsOver, leaves, mostServed, handedBy, creatingFirst, idling, servingOrTaking, seeing, standingAt, event}
+use Rattle.machine.specs.Event.{Event, minds, pushes, findsFull, triesAndOwns, triesInVain, takesTicket, registers, waits, receives, owns, drains, fills, takes, takesNone, handsOver, leaves, mostServed, may, handedBy, creatingFirst, idling, choice, taking, servingWith, servingOrTaking, seeing, standingAt, event}
+use Rattle.machine.specs.Ready.{Choice, nothing, chosen, choose, Chosen}
 
 -- idle, with nothing in hand and an empty mailbox
 pub record AtRest (s : State) (w : ℕ) : Type 0 where
@@ -37,10 +38,10 @@ pub data Does (c : Setup) (s : State) (w : ℕ) : Event → Type 0 where
   does-receive : (t i : ℕ) → s .place w ≡ looking t → L.look (c .slots) (s .lock) t w ≡ L.receives i → Does c s w (receives t i)
   does-own : (t : ℕ) → s .place w ≡ looking t → L.look (c .slots) (s .lock) t w ≡ L.owns → Does c s w (owns t)
   does-drain : (p : Purpose) (k : ℕ) → s .place w ≡ draining p k → Does c s w (drains p k)
-  does-fill : (n v i : ℕ) (is : List ℕ) → s .place w ≡ serving n → s .readyList ≡ i ∷ is → L.front (c .slots) (s .lock) ≡ some v
-      → n < mostServed c → Does c s w (fills n v i is)
-  does-take : (n i : ℕ) (is : List ℕ) → s .place w ≡ serving n → s .readyList ≡ i ∷ is → Does c s w (takes i is)
-  does-take-none : (n : ℕ) → s .place w ≡ serving n → s .readyList ≡ [] → Does c s w takesNone
+  does-fill : (n v i : ℕ) (is : List ℕ) → s .place w ≡ serving n → Chosen (may c v) (s .readyList) i is
+      → L.front (c .slots) (s .lock) ≡ some v → n < mostServed c → Does c s w (fills n v i is)
+  does-take : (n i : ℕ) (is : List ℕ) → s .place w ≡ serving n → Chosen (may c w) (s .readyList) i is → Does c s w (takes i is)
+  does-take-none : (n : ℕ) → s .place w ≡ serving n → choose (may c w) (s .readyList) ≡ nothing → Does c s w takesNone
   does-hand-over : (n : ℕ) → s .place w ≡ handing n → Does c s w (handsOver n (handedBy c s w))
   does-leave : s .place w ≡ leaving → Does c s w (leaves (handedBy c s w))
 
@@ -84,16 +85,24 @@ module _ (c : Setup) (s : State) (w : ℕ) where
   does-looking t p (L.receives i) e = does-receive t i p e
   does-looking t p L.owns e = does-own t p e
 
-  does-serving : (n : ℕ) → s .place w ≡ serving n → (is : List ℕ) → s .readyList ≡ is
-      → (o : Option ℕ) → L.front (c .slots) (s .lock) ≡ o → Does c s w (servingOrTaking c s n is o)
+  does-taking : (n : ℕ) → s .place w ≡ serving n → (x : Choice) → choice c s w ≡ x → Does c s w (taking c s x)
+  does-taking n p nothing e = does-take-none n p e
+  does-taking n p (chosen i is) e = does-take n i is p (record { found = e })
+
+  does-serving : (n : ℕ) → s .place w ≡ serving n → (o : Option ℕ) → L.front (c .slots) (s .lock) ≡ o
+      → Does c s w (servingOrTaking c s w n o)
   unfolding servingOrTaking
-  does-serving n p [] e o f = does-take-none n p e
-  does-serving n p (i ∷ is) e none f = does-take n i is p e
-  does-serving n p (i ∷ is) e (some v) f = go (ltb n (mostServed c)) refl
+  does-serving n p none f = does-taking n p (choice c s w) refl
+  does-serving n p (some v) f = go (ltb n (mostServed c)) refl
     where
-      go : (b : Bool) → ltb n (mostServed c) ≡ b → Does c s w (elim b [ true ↦ fills n v i is | false ↦ takes i is ])
-      go true q = does-fill n v i is p e f (ltb-true _ _ q)
-      go false q = does-take n i is p e
+      with-choice : n < mostServed c → (x : Choice) → choice c s v ≡ x → Does c s w (servingWith c s w n v x)
+      with-choice l nothing e = does-taking n p (choice c s w) refl
+      with-choice l (chosen i is) e = does-fill n v i is p (record { found = e }) f l
+
+      go : (b : Bool) → ltb n (mostServed c) ≡ b
+          → Does c s w (elim b [ true ↦ servingWith c s w n v (choice c s v) | false ↦ taking c s (choice c s w) ])
+      go true q = with-choice (ltb-true _ _ q) (choice c s v) refl
+      go false q = does-taking n p (choice c s w) refl
 
   does-at : (p : Place) → s .place w ≡ p → Does c s w (standingAt c s w p)
   unfolding standingAt
@@ -104,7 +113,7 @@ module _ (c : Setup) (s : State) (w : ℕ) where
   does-at (registering t) e = does-register t e
   does-at (looking t) e = does-looking t e (L.look (c .slots) (s .lock) t w) refl
   does-at (draining p k) e = does-drain p k e
-  does-at (serving n) e = does-serving n e (s .readyList) refl (L.front (c .slots) (s .lock)) refl
+  does-at (serving n) e = does-serving n e (L.front (c .slots) (s .lock)) refl
   does-at (handing n) e = does-hand-over n e
   does-at leaving e = does-leave e
 

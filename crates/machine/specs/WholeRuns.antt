@@ -15,7 +15,7 @@ use Rattle.tasks.specs.Accesses.{taskAt, conflict}
 use Rattle.tasks.specs.Tasks.{ready, held, running, over, pastWaiting}
 use Rattle.tasks.specs.Playing as P
 use Rattle.machine.specs.State.{Setup, looking, State, start}
-use Rattle.machine.specs.Event.{registers, event}
+use Rattle.machine.specs.Event.{registers, may, event}
 use Rattle.machine.specs.Step.{step, finished, pick, after}
 use Rattle.machine.specs.Figures.{waitingFigure, finishingFigure}
 use Rattle.machine.specs.Trace.{Happening, trace, tally, isReceipt, isEnding, isHandOver}
@@ -55,6 +55,11 @@ pub record WholeRun (c : Setup) (ws : List ℕ) : Type 0 where
   pub received-once : (i : ℕ) → tally (isReceipt i) (trace c (start c) ws) ≤ 1
   pub same-worker : (i k : ℕ) (h : Happening) → getElem? (trace c (start c) ws) k ≡ some h
       → 0 < isReceipt i (h .what) + isEnding i (h .what) → h .by ≡ (after c ws) .tasks .runner i
+  -- who receives a task may run it, and so may the worker that has run it or runs it
+  pub may-receive : (i k : ℕ) (h : Happening) → getElem? (trace c (start c) ws) k ≡ some h → 0 < isReceipt i (h .what)
+      → may c (h .by) i ≡ true
+  pub may-run : (i : ℕ) → ((after c ws) .tasks .status i ≡ running) ⊎ ((after c ws) .tasks .status i ≡ over)
+      → may c ((after c ws) .tasks .runner i) i ≡ true
   -- an earlier task that conflicts with one that is ready, held, run or over is over
   pub in-order : (i j : ℕ) → i < j → j < length (c .tasks) → conflict (taskAt (c .tasks) i) (taskAt (c .tasks) j) ≡ true
       → pastWaiting ((after c ws) .tasks .status j) ≡ 1 → (after c ws) .tasks .status i ≡ over
@@ -66,8 +71,8 @@ pub record WholeRun (c : Setup) (ws : List ℕ) : Type 0 where
   pub waiting : (B : ℕ) → Regular (c .workers) B ws → (w t : ℕ) (r : Registers c ws w t)
       → Within (pick c) (λ s. (finished c s ≡ true) ⊎ OutOfWait c w s) (waitingFigure c B (distanceOf r)) (r .since) (registered r)
       ⊎ (length (r .since) < waitingFigure c B (distanceOf r))
-  -- and T tasks with A accesses and total cost C are finished within B (4W + 8) (7T + 7A + C) picks if the list is
-  -- that long, each with one receipt and one ending
+  -- and T tasks with A accesses and total cost C are finished within B F (7T + 7A + C) picks if the list is that long, each with one
+  -- receipt and one ending; F is 4W + 8, or 3W² + 7W + 8 for a plan with M lines (`perProgress`)
   pub finishing : (B : ℕ) → Regular (c .workers) B ws → finishingFigure c B ≤ length ws
       → (finished c (after c ws) ≡ true)
       × ((after c ws) .picks ≤ finishingFigure c B)
@@ -136,6 +141,8 @@ module _ (c : Setup) (playable : Playable c) (ws : List ℕ) (p : Picks (c .work
         none-lost = S.none-lost c playable ws p;
         received-once = S.received-once c playable ws p;
         same-worker = S.same-worker c playable ws p;
+        may-receive = S.may-receive c playable ws p;
+        may-run = S.may-run c playable ws p;
         in-order = S.in-order c playable ws p;
         turn = turn-of;
         waiting = λ B g w t r. waiting-of w t r B g;

@@ -14,9 +14,12 @@ use Rattle.plan.specs.Plan.{slotsOf, Plan}
 use Rattle.plan.specs.Reading.{accepted, reading}
 use Rattle.plan.specs.Orders.{picksOfAll, picksUpTo}
 use Rattle.plan.specs.Accepted.{WellFormed, accepted-well-formed}
+use Rattle.plan.specs.Permits.{anyMasked}
+use Rattle.plan.specs.PermitLaws.{some-permitted}
 use Rattle.tasks.specs.Accesses.{taskAt}
 use Rattle.machine.specs.State.{start}
 use Rattle.machine.specs.Step.{finished}
+use Rattle.machine.specs.Unmasked.{afterBefore, unmasked-runs}
 use Rattle.machine.specs.Ranges.{Sized}
 use Rattle.machine.specs.Safety as Safety
 use Rattle.machine.specs.Safety.Invariant.{Playable}
@@ -51,6 +54,7 @@ module _ (text : List ℕ) (p : Plan) (e : reading text ≡ accepted p) where
         ring = formed .slots-enough;
         room = formed .capacity-some;
         distinct = λ i l. formed .tasks i l _ .addresses-once;
+        runnable = λ i l. some-permitted (p .workers) (taskAt (p .tasks) i) (formed .workers-some) (formed .tasks i l _ .mask-formed);
       }
 
   -- demand 3, for every list of picks of the plan's workers
@@ -71,11 +75,16 @@ module _ (text : List ℕ) (p : Plan) (e : reading text ≡ accepted p) where
   pub own-givers : (limit i : ℕ) → Givers (setupOf p) (picksUpTo limit p) i
   own-givers limit = accepted-givers (picksUpTo limit p) (own-picks limit)
 
+  -- without M lines a run is what it was before there were masks, pick for pick
+  pub own-unmasked : anyMasked (p .tasks) ≡ false → (limit : ℕ) → reached p limit ≡ afterBefore (setupOf p) (picksUpTo limit p)
+  own-unmasked none limit = unmasked-runs (setupOf p) none (picksUpTo limit p)
+
   -- at most four accesses in a task, also past the last
   pub few-accesses : (i : ℕ) → length (taskAt (p .tasks) i .accesses) ≤ 4
   few-accesses i =
       ⊎-elim (λ (l : i < length (p .tasks)). formed .tasks i l _ .accesses-few)
-      (λ (l : length (p .tasks) ≤ i). rw (List·getD-eq-default (p .tasks) (record { label = _; cost = 0; accesses = _ }) l) (omega arith))
+      (λ (l : length (p .tasks) ≤ i).
+      rw (List·getD-eq-default (p .tasks) (record { label = _; cost = 0; accesses = _; mask = _ }) l) (omega arith))
       (order i (length (p .tasks)))
 
   -- picks, head and tail of the state that a run reaches stay far below 2^64
@@ -118,4 +127,5 @@ module _ (text : List ℕ) (p : Plan) (e : reading text ≡ accepted p) where
         capacity = formed .capacity-few;
         tasks = formed .tasks-few;
         accesses = few-accesses;
+        masks = λ i l. formed .tasks i l _ .mask-formed;
       }

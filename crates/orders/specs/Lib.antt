@@ -2,5 +2,6 @@ pub mod Reached
 pub mod Picked
 pub mod Sizes
 pub mod AcceptedRuns
+pub mod MaskedFigure
 pub mod Limited
 pub mod Played

@@ -1,6 +1,6 @@
 -- A text that is accepted means a well-formed plan, with no more order lines than its length has room for.
 use Prim.Native.Nat.{ℕ, zero, suc, _+_, _*_, _^_, _≤_, _<_}
-use mathlib.Core.Path.{_≡_, refl}
+use mathlib.Core.Path.{_≡_, refl, ap}
 use mathlib.Core.Bool.{Bool, true, false, cond, not, _&&_, _||_, and-eq-true-iff}
 use mathlib.Core.List.{List, [], _∷_, _++_, map}
 use mathlib.Core.Option.{Option, none, some, Option·map, Option·some-ne-none}
@@ -16,9 +16,9 @@ use Rattle.text.specs.FieldLaws.{some-part}
 use Rattle.text.specs.Text.{lineFeed, tab, within, allOf, onFirst, split, numberOf}
 use Rattle.plan.specs.declared.form.Form.{Form}
 use Rattle.plan.specs.declared.form.Form.the-variants.{First, Second}
-use Rattle.plan.specs.Plan.{Access, Task, Order, picks, rounds, seeded, slotsOf, capacityOf, Plan, emptyPlan}
-use Rattle.plan.specs.Line.{'P', 'R', 'S', 'T', 'W', Ask, Line, atStart, hasOrders, repeats, sizesInRange, isLabel, accessOf}
-use Rattle.plan.specs.Line.{workersLine, taskLine, orderLine, picksLine, roundsLine, seededLine}
+use Rattle.plan.specs.Plan.{Access, Task, Order, picks, rounds, seeded, slotsOf, capacityOf, Plan, emptyPlan, maskLast}
+use Rattle.plan.specs.Line.{'M', 'P', 'R', 'S', 'T', 'W', Ask, Line, atStart, hasOrders, endsUnmasked, repeats, sizesInRange, isLabel, accessOf}
+use Rattle.plan.specs.Line.{workersLine, taskLine, maskLine, orderLine, picksLine, roundsLine, seededLine}
 use Rattle.plan.specs.Line.{oneNumber, withBoth, twoNumbers, inForm, withCost, labelAndCost, lineBy, lineOfFields, lineOf}
 use Rattle.plan.specs.Reading.{Reading, accepted, refused, firstRefusal, readLine, readEnd, readLines, isTooLong, reading}
 
@@ -26,13 +26,19 @@ use Rattle.plan.specs.Reading.{Reading, accepted, refused, firstRefusal,
 abbrev pub Each : {A : Type 0} → (A → Type 0) → List A → Type 0
 Each {A} P xs = (i : ℕ) → i < length xs → (d : A) → P (getD xs i d)
 
-pub record TaskFormed (t : Task) : Type 0 where
+-- some bit, and none at W or above
+abbrev pub MaskFormed : ℕ → Option ℕ → Type 0
+MaskFormed W none = Unit {0}
+MaskFormed W (some m) = (0 < m) × (m < 2 ^ W)
+
+pub record TaskFormed (W : ℕ) (t : Task) : Type 0 where
   pub label-some : 1 ≤ length (t .label)
   pub label-short : length (t .label) ≤ 16
   pub cost-low : t .cost ≤ 1000
   pub accesses-few : length (t .accesses) ≤ 4
   pub addresses-low : Each (λ a. a .address ≤ 65535) (t .accesses)
   pub addresses-once : repeats (t .accesses) ≡ false
+  pub mask-formed : MaskFormed W (t .mask)
 
 abbrev pub OrderFormed : ℕ → Order → Type 0
 OrderFormed W (picks worker n) = (worker < W) × (1 ≤ n) × (n ≤ 4096)
@@ -47,7 +53,7 @@ pub record WellFormed (p : Plan) : Type 0 where
   pub capacity-some : 1 ≤ capacityOf (p .form)
   pub capacity-few : capacityOf (p .form) ≤ 16
   pub tasks-few : length (p .tasks) ≤ 128
-  pub tasks : Each TaskFormed (p .tasks)
+  pub tasks : Each (TaskFormed (p .workers)) (p .tasks)
   pub orders : Each (OrderFormed (p .workers)) (p .orders)
 
 -- ---- lists and tests
@@ -103,7 +109,7 @@ record Begun (p : Plan) : Type 0 where
   pub workers-few : p .workers ≤ 32
   pub sized : Sized (p .workers) (p .form)
   pub tasks-few : length (p .tasks) ≤ 128
-  pub tasks : Each TaskFormed (p .tasks)
+  pub tasks : Each (TaskFormed (p .workers)) (p .tasks)
   pub orders : Each (OrderFormed (p .workers)) (p .orders)
 
 -- all that is asked holds, where there is no fault
@@ -128,6 +134,37 @@ sized n (Second slots capacity) enough e =
     let (low, high) = within-bounds 1 16 capacity few-places in
     (enough, within-bounds 1 64 slots few-slots .1, low, high)
 
+-- ---- the last task with a mask
+
+pub ends-some : (ts : List Task) → endsUnmasked ts ≡ true → 0 < length ts
+unfolding endsUnmasked
+ends-some [] e = clash (cc)
+ends-some (t ∷ ts) e = omega arith
+
+pub mask-length : (m : ℕ) (ts : List Task) → length (maskLast m ts) ≡ length ts
+unfolding maskLast
+mask-length m [] = refl
+mask-length m (t ∷ []) = refl
+mask-length m (t ∷ u ∷ ts) = ap suc (mask-length m (u ∷ ts))
+
+each-masked : (W m : ℕ) → MaskFormed W (some m) → (ts : List Task) → Each (TaskFormed W) ts → Each (TaskFormed W) (maskLast m ts)
+unfolding maskLast
+each-masked W m f [] h i l d = absurd (omega arith)
+each-masked W m f (t ∷ []) h zero l d =
+    let k = h 0 (omega arith) d in
+    record {
+      label-some = k .label-some;
+      label-short = k .label-short;
+      cost-low = k .cost-low;
+      accesses-few = k .accesses-few;
+      addresses-low = k .addresses-low;
+      addresses-once = k .addresses-once;
+      mask-formed = f;
+    }
+each-masked W m f (t ∷ []) h (suc i) l d = absurd (omega arith)
+each-masked W m f (t ∷ u ∷ ts) h zero l d = h 0 (omega arith) d
+each-masked W m f (t ∷ u ∷ ts) h (suc i) l d = each-masked W m f (u ∷ ts) (λ j k. h (suc j) (omega arith)) i (omega arith) d
+
 -- ---- one line more, by its kind: an order line has four bytes or more
 
 module _ (p : Plan) (h : Begun p) (k : ℕ) where
@@ -151,7 +188,7 @@ module _ (p : Plan) (h : Begun p) (k : ℕ) where
               workers-few = high;
               sized = sized n form (leb-true _ _ (range .1 .0)) sizes;
               tasks-few = h .tasks-few;
-              tasks = h .tasks;
+              tasks = λ i l. absurd (omega arith);
               orders = λ i l. absurd (omega arith);
             };
         room = omega arith;
@@ -164,8 +201,8 @@ module _ (p : Plan) (h : Begun p) (k : ℕ) where
       some-workers zero f = absurd (f refl)
       some-workers (suc n) f = omega arith
 
-  keeps-task : (t : Task) → isLabel (t .label) ≡ true → Keeps (some (taskLine p t))
-  keeps-task t formed (place, range) =
+  keeps-task : (t : Task) → isLabel (t .label) ≡ true → MaskFormed (p .workers) (t .mask) → Keeps (some (taskLine p t))
+  keeps-task t formed masked (place, range) =
       let (low-cost, low-addresses) = both _ _ (range .0) in
       let (few-tasks, few-accesses) = both _ _ (range .1 .0) in
       let (some-label, short-label) = within-bounds 1 16 (length (t .label)) ((both _ _ formed) .0) in
@@ -178,7 +215,7 @@ module _ (p : Plan) (h : Begun p) (k : ℕ) where
               sized = h .sized;
               tasks-few = omega (arith, length-append (p .tasks) (t ∷ []), ltb-true (length (p .tasks)) 128 few-tasks);
               tasks =
-                  each-more TaskFormed (p .tasks) t (h .tasks)
+                  each-more (TaskFormed (p .workers)) (p .tasks) t (h .tasks)
                   (record {
                     label-some = some-label;
                     label-short = short-label;
@@ -186,7 +223,24 @@ module _ (p : Plan) (h : Begun p) (k : ℕ) where
                     accesses-few = leb-true (length (t .accesses)) 4 few-accesses;
                     addresses-low = λ i l d. leb-true _ _ (every-each (λ a. leb (a .address) 65535) (t .accesses) low-addresses i l d);
                     addresses-once = not-true (repeats (t .accesses)) (range .1 .1 .0);
+                    mask-formed = masked;
                   });
+              orders = h .orders;
+            };
+        room = omega arith;
+      }
+
+  keeps-mask : (m : ℕ) → Keeps (some (maskLine p m))
+  keeps-mask m (place, range) =
+      let e = ends-some (p .tasks) (both (not (hasOrders p)) _ place .1) in
+      record {
+        begun =
+            record {
+              fresh = λ z. absurd (omega (arith, h .fresh z .0));
+              workers-few = h .workers-few;
+              sized = h .sized;
+              tasks-few = omega (arith, mask-length m (p .tasks), h .tasks-few);
+              tasks = each-masked (p .workers) m (ltb-true _ _ (range .1 .0), ltb-true _ _ (range .0)) (p .tasks) (h .tasks);
               orders = h .orders;
             };
         room = omega arith;
@@ -277,7 +331,7 @@ module _ (p : Plan) (h : Begun p) (k : ℕ) where
       go false e c xs = tt
       go true e none xs = tt
       go true e (some c) none = tt
-      go true e (some c) (some xs) = keeps-task _ e
+      go true e (some c) (some xs) = keeps-task _ e tt
 
   keeps-cond : (b : Bool) (x y : Option Line) → Keeps x → Keeps y → Keeps (cond b x y)
   keeps-cond true x y f g = f
@@ -288,9 +342,10 @@ module _ (p : Plan) (h : Begun p) (k : ℕ) where
   keeps-by letter fields e =
       keeps-cond (eqb letter 'W') _ _ (keeps-in-form fields e)
       (keeps-cond (eqb letter 'T') _ _ (keeps-labelled fields)
+      (keeps-cond (eqb letter 'M') _ _ (keeps-one (maskLine p) (λ m l. keeps-mask m) fields e)
       (keeps-cond (eqb letter 'P') _ _ (keeps-two (picksLine p) keeps-picks fields e)
       (keeps-cond (eqb letter 'R') _ _ (keeps-one (roundsLine p) keeps-rounds fields e)
-      (keeps-cond (eqb letter 'S') _ none (keeps-two (seededLine p) keeps-seeded fields e) tt))))
+      (keeps-cond (eqb letter 'S') _ none (keeps-two (seededLine p) keeps-seeded fields e) tt)))))
 
   keeps-fields : (fields : List (List ℕ)) → size fields ≤ k → Keeps (lineOfFields p fields)
   unfolding lineOfFields size

@@ -21,7 +21,7 @@ pub record Meaning : Type 0 where
   pub text : String
   pub plan : Plan
 
-abbrev meaning : String → Plan → Meaning
+abbrev pub meaning : String → Plan → Meaning
 meaning text plan = record { text = text; plan = plan }
 
 abbrev pub AllAccepted : List Meaning → Type 0

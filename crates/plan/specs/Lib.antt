@@ -1,10 +1,13 @@
 pub mod Plan
+pub mod Permits
 pub mod Line
 pub mod Reading
 pub mod Lengths
 pub mod Orders
 pub mod Accepted
+pub mod PermitLaws
 pub mod Refused
 pub mod TwoFaults
 pub mod Forms
+pub mod MasksRead
 pub mod PassFields

@@ -6,12 +6,13 @@ use mathlib.Core.Option.{Option, none, some, Option·map}
 use lib.ListN.{length}
 use lib.Dec.{eqb, leb, ltb}
 use Rattle.refusals.specs.declared.Refusal.{Refusal}
-use Rattle.refusals.specs.declared.Refusal.the-variants.{OutOfRange, Misplaced, TooMany, AddressTwice, TooFewSlots}
+use Rattle.refusals.specs.declared.Refusal.the-variants.{OutOfRange, Misplaced, TooMany, AddressTwice, TooFewSlots, EmptyMask}
 use Rattle.runs.specs.Every.{every}
 use Rattle.text.specs.Text.{tab, hyphen, within, allOf, split, isDigit, numberOf}
 use Rattle.plan.specs.declared.form.Form.{Form}
 use Rattle.plan.specs.declared.form.Form.the-variants.{First, Second}
-use Rattle.plan.specs.Plan.{Access, Task, Order, picks, rounds, seeded, slotsOf, Plan, withWorkers, withTask, withOrder}
+use Rattle.plan.specs.Plan.{Access, Task, Order, picks, rounds, seeded, slotsOf, Plan, withWorkers, withTask, withMask, withOrder}
+use Rattle.plan.specs.Permits.{isMasked}
 
 -- ---- what is asked of a line
 
@@ -69,6 +70,25 @@ taskLine p t =
     ∷ ask (not (repeats (t .accesses))) AddressTwice ∷ [])
     (withTask p t)
 
+-- the last task has no M line
+unfoldable pub endsUnmasked : List Task → Bool
+endsUnmasked [] = false
+endsUnmasked (t ∷ []) = not (isMasked t)
+endsUnmasked (t ∷ u ∷ ts) = endsUnmasked (u ∷ ts)
+
+-- the line before is a T line
+abbrev pub afterTask : Plan → Bool
+afterTask p = not (hasOrders p) && endsUnmasked (p .tasks)
+
+-- M: directly after a T line; no bit at W or above, and some bit
+abbrev pub maskLine : Plan → ℕ → Line
+maskLine p mask =
+    line
+    (ask (afterTask p) Misplaced
+    ∷ ask (ltb mask (2 ^ p .workers)) OutOfRange
+    ∷ ask (ltb 0 mask) EmptyMask ∷ [])
+    (withMask p mask)
+
 -- P, R, S: the order lines
 abbrev pub orderLine : Plan → Bool → Order → Line
 orderLine p inRange o = line (ask (not (atStart p)) Misplaced ∷ ask inRange OutOfRange ∷ []) (withOrder p o)
@@ -85,6 +105,9 @@ seededLine p seed n = orderLine p (ltb seed (2 ^ 64) && within 1 1000000 n) (see
 -- ---- the form of a line: its fields
 
 -- the letters of lines and accesses
+abbrev pub 'M' : ℕ
+'M' = 77
+
 abbrev pub 'P' : ℕ
 'P' = 80
 
@@ -151,7 +174,7 @@ inForm make (f ∷ g ∷ gs) =
 abbrev pub withCost : (Task → Line) → List ℕ → Option ℕ → Option (List Access) → Option Line
 withCost make label none xs = none
 withCost make label (some c) none = none
-withCost make label (some c) (some xs) = some (make (record { label = label; cost = c; accesses = xs }))
+withCost make label (some c) (some xs) = some (make (record { label = label; cost = c; accesses = xs; mask = none }))
 
 -- a label, a cost, and any number of accesses
 abbrev pub labelAndCost : (Task → Line) → List (List ℕ) → Option Line
@@ -164,9 +187,10 @@ unfoldable pub lineBy : Plan → ℕ → List (List ℕ) → Option Line
 lineBy p letter fields =
     cond (eqb letter 'W') (inForm (workersLine p) fields)
     (cond (eqb letter 'T') (labelAndCost (taskLine p) fields)
+    (cond (eqb letter 'M') (oneNumber (maskLine p) fields)
     (cond (eqb letter 'P') (twoNumbers (picksLine p) fields)
     (cond (eqb letter 'R') (oneNumber (roundsLine p) fields)
-    (cond (eqb letter 'S') (twoNumbers (seededLine p) fields) none))))
+    (cond (eqb letter 'S') (twoNumbers (seededLine p) fields) none)))))
 
 -- the first field is one letter
 unfoldable pub lineOfFields : Plan → List (List ℕ) → Option Line

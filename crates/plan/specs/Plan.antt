@@ -2,6 +2,7 @@
 use Prim.Native.Nat.{ℕ}
 use mathlib.Core.Bool.{Bool}
 use mathlib.Core.List.{List, [], _∷_, _++_}
+use mathlib.Core.Option.{Option, some}
 use Rattle.plan.specs.declared.form.Form.{Form}
 use Rattle.plan.specs.declared.form.Form.the-variants.{First, Second}
 
@@ -14,6 +15,8 @@ pub record Task : Type 0 where
   pub label : List ℕ
   pub cost : ℕ
   pub accesses : List Access
+  -- the number of its M line, if it has one: bit i for worker i
+  pub mask : Option ℕ
 
 -- an order line: a worker so many times, so many rounds of all workers, or a seed and so many seeded picks
 pub data Order : Type 0 where
@@ -47,6 +50,15 @@ withWorkers p n form = record { workers = n; form = form; tasks = p .tasks; orde
 
 abbrev pub withTask : Plan → Task → Plan
 withTask p t = record { workers = p .workers; form = p .form; tasks = p .tasks ++ t ∷ []; orders = p .orders }
+
+-- the last task with the mask of an M line
+unfoldable pub maskLast : ℕ → List Task → List Task
+maskLast m [] = []
+maskLast m (t ∷ []) = record { label = t .label; cost = t .cost; accesses = t .accesses; mask = some m } ∷ []
+maskLast m (t ∷ u ∷ ts) = t ∷ maskLast m (u ∷ ts)
+
+abbrev pub withMask : Plan → ℕ → Plan
+withMask p m = record { workers = p .workers; form = p .form; tasks = maskLast m (p .tasks); orders = p .orders }
 
 abbrev pub withOrder : Plan → Order → Plan
 withOrder p o = record { workers = p .workers; form = p .form; tasks = p .tasks; orders = p .orders ++ o ∷ [] }

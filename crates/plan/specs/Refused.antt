@@ -11,20 +11,20 @@ use lib.Dec.{eqb}
 use borrow.Author.Tests.{ltb-true}
 use Rattle.runs.specs.Update.{clash}
 use Rattle.refusals.specs.declared.Refusal.{Refusal}
-use Rattle.refusals.specs.declared.Refusal.the-variants.{TextTooLong, Misplaced, TooFewSlots}
+use Rattle.refusals.specs.declared.Refusal.the-variants.{TextTooLong, Misplaced, TooFewSlots, EmptyMask}
 use Rattle.refusals.specs.Number.{number}
 use Rattle.text.specs.Text.{lineFeed, tab, allOf, split, numberOf}
 use Rattle.plan.specs.declared.form.Form.{Form}
 use Rattle.plan.specs.declared.form.Form.the-variants.{First, Second}
 use Rattle.plan.specs.Plan.{Access, Plan, emptyPlan}
-use Rattle.plan.specs.Line.{'P', 'R', 'S', 'T', 'W', Ask, Line, atStart, isLabel, accessOf}
-use Rattle.plan.specs.Line.{workersLine, taskLine, picksLine, roundsLine, seededLine}
+use Rattle.plan.specs.Line.{'M', 'P', 'R', 'S', 'T', 'W', Ask, Line, atStart, isLabel, accessOf}
+use Rattle.plan.specs.Line.{workersLine, taskLine, maskLine, picksLine, roundsLine, seededLine}
 use Rattle.plan.specs.Line.{oneNumber, withBoth, twoNumbers, inForm, withCost, labelAndCost, lineBy, lineOfFields, lineOf}
 use Rattle.plan.specs.Reading.{Reading, accepted, refused, firstRefusal, readLine, readLines, isTooLong, reading}
 
--- the refusals that the plan's author causes: 1 to 5, and 9
+-- the refusals that the plan's author causes: 1 to 5, 9 and 11
 abbrev pub ByAuthor : Refusal → Type 0
-ByAuthor r = (number r ≤ 5) ⊎ (r ≡ TooFewSlots)
+ByAuthor r = (number r ≤ 5) ⊎ (r ≡ TooFewSlots) ⊎ (r ≡ EmptyMask)
 
 -- ---- what is asked of a line
 
@@ -58,7 +58,7 @@ module _ (p : Plan) where
   two make h (f ∷ g ∷ k ∷ ks) = tt
 
   workers-asks : (n : ℕ) (form : Form) → AuthorAsks (workersLine p n form .asks)
-  workers-asks n form = (inl (omega arith), (inl (omega arith), (inr refl, tt)))
+  workers-asks n form = (inl (omega arith), (inl (omega arith), (inr (inl refl), tt)))
 
   in-form : (fields : List (List ℕ)) → AuthorLine (inForm (workersLine p) fields)
   in-form [] = tt
@@ -92,9 +92,10 @@ module _ (p : Plan) where
   by-letter letter fields =
       either (eqb letter 'W') _ _ (in-form fields)
       (either (eqb letter 'T') _ _ (labelled fields)
+      (either (eqb letter 'M') _ _ (one (maskLine p) (λ m. (inl (omega arith), (inl (omega arith), (inr (inr refl), tt)))) fields)
       (either (eqb letter 'P') _ _ (two (picksLine p) (λ w n. (inl (omega arith), (inl (omega arith), tt))) fields)
       (either (eqb letter 'R') _ _ (one (roundsLine p) (λ n. (inl (omega arith), (inl (omega arith), tt))) fields)
-      (either (eqb letter 'S') _ none (two (seededLine p) (λ s n. (inl (omega arith), (inl (omega arith), tt))) fields) tt))))
+      (either (eqb letter 'S') _ none (two (seededLine p) (λ s n. (inl (omega arith), (inl (omega arith), tt))) fields) tt)))))
 
   of-line : (fields : List (List ℕ)) → AuthorLine (lineOfFields p fields)
   unfolding lineOfFields

@@ -1,14 +1,15 @@
 -- Texts with two faults, read: which one decides. The first faulty line does, and in it the refusals come in the order 1, 3, 2, 4, 5; in a
--- W line in the order 1, 3, 2, 9.
+-- W line in the order 1, 3, 2, 9; in an M line in the order 1, 3, 2, 11.
 use Prim.Native.Nat.{ℕ}
 use Prim.Native.String.{String}
 use mathlib.Core.Path.{_≡_, refl}
 use mathlib.Core.List.{List, [], _∷_}
 use Rattle.refusals.specs.declared.Refusal.{Refusal}
-use Rattle.refusals.specs.declared.Refusal.the-variants.{Malformed, OutOfRange, Misplaced, TooMany, AddressTwice, TooFewSlots}
+use Rattle.refusals.specs.declared.Refusal.the-variants.{Malformed, OutOfRange, Misplaced, TooMany, AddressTwice, TooFewSlots, EmptyMask}
 use Rattle.runs.specs.Every.{every}
 use Rattle.text.specs.Text.{bytes, allOf, split, valueAfter, numberOf}
-use Rattle.plan.specs.Line.{repeats, accessOf, lineBy, lineOfFields}
+use Rattle.plan.specs.Plan.{maskLast}
+use Rattle.plan.specs.Line.{repeats, endsUnmasked, accessOf, lineBy, lineOfFields}
 use Rattle.plan.specs.Reading.{refused, firstRefusal, readLines, reading}
 
 pub record Faulty : Type 0 where
@@ -74,3 +75,34 @@ workersFaults =
 pub workers-faults : AllRefused workersFaults
 unfolding bytes every split valueAfter numberOf lineBy lineOfFields firstRefusal readLines reading
 workers-faults = (refl, (refl, (refl, (refl, (refl, (refl, (refl, (refl, (refl, (refl, (refl, (refl, (refl, tt)))))))))))))
+
+-- M lines
+abbrev pub maskFaults : List Faulty
+maskFaults =
+    -- 1 and not 3: two numbers before the W line, no number after an order line
+    faulty "M\t1\t2\n" Malformed 1
+    ∷ faulty "W\t1\nR\t1\nM\n" Malformed 3
+    -- 1 and not 2, and not 11: no line feed, two numbers
+    ∷ faulty "W\t1\nT\ta\t0\nM\t2" Malformed 3
+    ∷ faulty "W\t1\nT\ta\t0\nM\t0\t0\n" Malformed 3
+    -- 3: before the W line, directly after it, after an order line, after an M line
+    ∷ faulty "M\t1\n" Misplaced 1
+    ∷ faulty "W\t2\nM\t1\n" Misplaced 2
+    ∷ faulty "W\t2\nT\ta\t0\nR\t1\nM\t1\n" Misplaced 4
+    ∷ faulty "W\t2\nT\ta\t0\nM\t1\nM\t1\n" Misplaced 4
+    -- and not 2
+    ∷ faulty "M\t4294967296\n" Misplaced 1
+    ∷ faulty "W\t2\nT\ta\t0\nM\t1\nM\t4\n" Misplaced 4
+    -- and not 11
+    ∷ faulty "W\t2\nM\t0\n" Misplaced 2
+    ∷ faulty "W\t2\nT\ta\t0\nR\t1\nM\t0\n" Misplaced 4
+    -- no mask is both out of range and 0: a bit at W is 2, no bit is 11
+    ∷ faulty "W\t2\nT\ta\t0\nM\t4\n" OutOfRange 3
+    ∷ faulty "W\t2\nT\ta\t0\nM\t0\n" EmptyMask 3
+    -- 11 in a line before one that is malformed
+    ∷ faulty "W\t2\nT\ta\t0\nM\t0\nT\n" EmptyMask 3
+    ∷ []
+
+pub mask-faults : AllRefused maskFaults
+unfolding bytes every allOf split valueAfter numberOf maskLast endsUnmasked lineBy lineOfFields repeats firstRefusal readLines reading
+mask-faults = (refl, (refl, (refl, (refl, (refl, (refl, (refl, (refl, (refl, (refl, (refl, (refl, (refl, (refl, (refl, tt)))))))))))))))

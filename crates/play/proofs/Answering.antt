@@ -1,5 +1,5 @@
 -- What the arrays say of a state, and the answer that they lead to.
-use Prim.Native.Nat.{ℕ, _-_, _≤_, _<_}
+use Prim.Native.Nat.{ℕ, _+_, _-_, _≤_, _<_}
 use native.Mathlib.Omega.{arith}
 use mathlib.Core.Path.{_≡_, sym, ap, _∙_}
 use mathlib.Core.List.{List, _++_}
@@ -14,58 +14,69 @@ use Rattle.memory.specs.Layout as layout
 use Rattle.memory.specs.Codes.{optionCode}
 use Rattle.memory.specs.Labels.{Labels}
 use Rattle.steps.specs.declared.Counts.{Counts}
-use Rattle.steps.specs.Layout.{GIVERS}
-use Rattle.steps.specs.Memory.{share, Memory, withCounts, Holds}
+use Rattle.steps.specs.Layout.{GIVERS, MASKS}
+use Rattle.steps.specs.Memory.{share, Memory, Masked, withCounts, Holds}
 use Rattle.report.specs.declared.Summary.{Summary}
 use Rattle.report.specs.Report.{report}
 use Rattle.report.specs.Shown.{Shown}
+use Rattle.report.specs.Totals.{onesOf, Masks, total-ones}
 use Rattle.play.specs.declared.Answer.the-variants.{Reports, Refuses}
 use Rattle.play.specs.Lent.{withShown}
 use Rattle.play.specs.Outcome.{written}
 use Rattle.play.specs.Written.{written-short, written-whole}
 
--- the part of the device's array that has the givers
-abbrev pub giversIn : List ℕ → List ℕ
-giversIn device = take (length device - GIVERS) (drop GIVERS device)
+-- the device's array from a place on: that of the givers, or that of the masks
+abbrev pub from : ℕ → List ℕ → List ℕ
+from at device = take (length device - at) (drop at device)
 
-givers-all : (device : List ℕ) → giversIn device ≡ drop GIVERS device
-givers-all device = ap (λ n. take n (drop GIVERS device)) (sym (length-drop GIVERS device)) ∙ take-length (drop GIVERS device)
+from-all : (at : ℕ) (device : List ℕ) → from at device ≡ drop at device
+from-all at device = ap (λ n. take n (drop at device)) (sym (length-drop at device)) ∙ take-length (drop at device)
 
-pub givers-long : (device : List ℕ) → length (giversIn device) ≡ length device - GIVERS
-givers-long device = ap length (givers-all device) ∙ length-drop GIVERS device
+pub from-long : (at : ℕ) (device : List ℕ) → length (from at device) ≡ length device - at
+from-long at device = ap length (from-all at device) ∙ length-drop at device
 
--- what a summary says by the numbers of a run and by the store
-abbrev pub Summed : Counts → List ℕ → Summary → Type 0
-Summed n store r =
-    ((r .picks ≡ n .picks) × (r .head ≡ n .ends .head .0) × (r .tail ≡ n .ends .tail .0) × (r .tasks ≡ n .tally .tasks))
+from-at : (at : ℕ) (device : List ℕ) (i : ℕ) → getD (from at device) i 0 ≡ getD device (at + i) 0
+from-at at device i = ap (λ (xs : List ℕ). getD xs i 0) (from-all at device) ∙ getD-drop at device i 0
+
+-- the masks of a setup that is within its sizes
+pub masks-are : (c : Setup) (device : List ℕ) → Sized c → Masked (c .workers) (c .tasks) device → Masks c (from MASKS device)
+masks-are c device sized h =
+    record { few = sized .workers; formed = sized .masks; are = λ i l. from-at MASKS device i ∙ h i l }
+
+-- what a summary says by the numbers of a run, by the store and by the masks
+abbrev pub Summed : Counts → (store masks : List ℕ) → Summary → Type 0
+Summed n store masks r =
+    ((r .picks ≡ n .picks) × (r .head ≡ n .ends .head .0) × (r .tail ≡ n .ends .tail .0) × (r .tasks ≡ n .tally .tasks)
+    × (r .permitted ≡ onesOf masks (n .tally .tasks)))
     × ((m : Memory) (c : Setup) (s : State) → Holds c (withCounts m n) (share store) s
     → (r .finished ≡ finished c s) × (r .owner ≡ optionCode (owner c s)))
 
-module _ (n : Counts) (store : List ℕ) (r : Summary) (summed : Summed n store r) where
-  module _ (m : Memory) (c : Setup) (s : State) (device rows text places : List ℕ) (labels : Labels (c .tasks) text places)
+module _ (n : Counts) (store device : List ℕ) (r : Summary) (summed : Summed n store (from MASKS device) r) where
+  module _ (m : Memory) (c : Setup) (s : State) (rows text places : List ℕ) (sized : Sized c) (labels : Labels (c .tasks) text places)
       (holds : Holds c (withShown m n device rows) (share store) s) where
     tasks-counted : r .tasks ≡ length (c .tasks)
     tasks-counted = summed .0 .3 ∙ holds .tasks .tasks
 
-    pub shown : Shown c s r rows places (giversIn device) text
+    pub shown : Shown c s r rows places (from GIVERS device) text
     shown =
         let (f, o) = summed .1 (withShown m n device rows) c s holds in
         record {
           finished = f;
           picks = summed .0 .0 ∙ holds .picks;
+          permitted = summed .0 .4 ∙ ap (onesOf (from MASKS device)) (holds .tasks .tasks)
+              ∙ total-ones c (from MASKS device) (masks-are c device sized (holds .device .masks));
           head = summed .0 .1 ∙ ap (λ l. l .head) (holds .lock);
           tail = summed .0 .2 ∙ ap (λ l. l .tail) (holds .lock);
           owner = o;
           count = tasks-counted;
           rows = holds .tasks .task-rows;
-          givers = λ i l.
-              ap (λ (xs : List ℕ). getD xs i 0) (givers-all device) ∙ getD-drop GIVERS device i 0 ∙ holds .device .givers i l;
+          givers = λ i l. from-at GIVERS device i ∙ holds .device .givers i l;
           labels = labels;
         }
 
     -- what the report asks of the number of tasks
-    pub few-tasks : Sized c → r .tasks ≤ layout.mostTasks
-    few-tasks sized = omega (arith, tasks-counted, sized .tasks)
+    pub few-tasks : r .tasks ≤ layout.mostTasks
+    few-tasks = omega (arith, tasks-counted, sized .tasks)
 
     module _ (left output : List ℕ) where
       pub too-short : length output < length (report c s)

@@ -1,21 +1,44 @@
--- No report of an accepted plan is longer than 14,433 bytes.
-use Prim.Native.Nat.{ℕ, _≤_}
+-- No report of an accepted plan is longer than 14,438 bytes.
+use Prim.Native.Nat.{ℕ, _^_, _≤_, _<_}
 use mathlib.Core.Path.{_≡_}
 use mathlib.Core.List.{List}
 use native.Mathlib.Omega.{arith}
 use lib.ListN.{length}
+use Rattle.runs.specs.Counts.{one, one-le}
+use Rattle.runs.specs.Sums.{sum-le, sum-const}
 use Rattle.plan.specs.Plan.{Plan}
+use Rattle.plan.specs.Permits.{permits, permitted}
 use Rattle.plan.specs.Reading.{accepted, reading}
 use Rattle.plan.specs.Orders.{picksUpTo}
 use Rattle.plan.specs.Accepted.{accepted-well-formed}
+use Rattle.tasks.specs.Accesses.{taskAt}
 use Rattle.machine.specs.Safety.{noted}
 use Rattle.machine.specs.Safety.Owners.{owner-below}
+use Rattle.report.specs.Report.{totalPermitted}
 use Rattle.report.specs.Sizes.{longest, Small, report-short}
 use Rattle.orders.specs.Reached.{setupOf, reached}
 use Rattle.orders.specs.AcceptedRuns.{playable, own-picks, own-givers, numbers-small}
 use Rattle.play.specs.Outcome.{reportOf}
 
 module _ (text : List ℕ) (p : Plan) (e : reading text ≡ accepted p) (limit : ℕ) where
+  -- 32 workers for each of 128 tasks
+  total-few : totalPermitted (setupOf p) < 10 ^ 4
+  total-few =
+      let formed = accepted-well-formed text p e in
+      let each : (i : ℕ) → permitted (p .workers) (taskAt (p .tasks) i) ≤ 32 = λ i.
+      omega (
+        arith,
+        sum-le (p .workers) (λ w. one (permits (taskAt (p .tasks) i) w)) (λ w. 1) (λ w l. one-le (permits (taskAt (p .tasks) i) w)),
+        sum-const (p .workers) 1,
+        formed .workers-few,
+      ) in
+      omega (
+        arith,
+        sum-le (length (p .tasks)) (λ i. permitted (p .workers) (taskAt (p .tasks) i)) (λ i. 32) (λ i l. each i),
+        sum-const (length (p .tasks)) 32,
+        formed .tasks-few,
+      )
+
   pub small : Small (setupOf p) (reached p limit)
   small =
       let formed = accepted-well-formed text p e in
@@ -26,6 +49,7 @@ module _ (text : List ℕ) (p : Plan) (e : reading text ≡ accepted p) (limit :
         tasks = formed .tasks-few;
         labels = λ i l. formed .tasks i l _ .label-short;
         picks = omega arith;
+        permitted = total-few;
         head = omega arith;
         tail = omega arith;
         owner = λ w o. omega (arith, owner-below (setupOf p) (reached p limit) w o);

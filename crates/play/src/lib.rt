@@ -2,9 +2,10 @@
 // the plan was kept, `specs/Outcome.antt` what its run writes.
 ghost use mathlib.Core.Path.{_≡_};
 ghost use mathlib.Core.List.{List};
-ghost use Prim.Native.Nat.{ℕ, _≤_};
+ghost use mathlib.Core.Option.{none};
+ghost use Prim.Native.Nat.{ℕ, _^_, _≤_, _<_};
 ghost use lib.Dec.{leb};
-ghost use lib.ListN.{length, take, drop, replicate};
+ghost use lib.ListN.{length, getD, take, drop, replicate};
 ghost use Rattle.plan.specs.Plan.{Plan};
 ghost use Rattle.plan.specs.Reading.{reading, accepted};
 ghost use Rattle.machine.specs.State.{Setup, State, start};
@@ -14,11 +15,12 @@ ghost use Rattle.machine.specs.Ranges.{Sized};
 ghost use Rattle.memory.specs.Layout as layout;
 ghost use Rattle.memory.specs.Codes.{optionCode};
 ghost use Rattle.memory.specs.Labels.{Labels};
-ghost use Rattle.steps.specs.Layout.{mostWorkers, mostSlots, sharesSize, GIVERS, deviceSize};
-ghost use Rattle.steps.specs.Memory.{share, Memory, withCounts, Holds};
+ghost use Rattle.steps.specs.Layout.{mostWorkers, mostSlots, sharesSize, deviceSize};
+ghost use Rattle.steps.specs.Memory.{share, Memory, Given, withCounts, Holds};
 ghost use Rattle.scheduler.specs.Lent.{memory};
 ghost use Rattle.report.specs.Report.{report};
 ghost use Rattle.report.specs.Shown.{Shown};
+ghost use Rattle.report.specs.Totals.{onesOf};
 ghost use Rattle.report.specs.Sizes.{Small};
 ghost use Rattle.orders.specs.Reached.{setupOf, reached};
 ghost use Rattle.play.specs.Outcome.{reportOf, written};
@@ -33,17 +35,20 @@ use reader::ReadPlan;
 use refusals::Refusal;
 use report::Summary;
 use report::put_report;
+use report::total_permitted;
 use scheduler::fresh;
 use scheduler::is_finished;
 use scheduler::owner::find_owner;
 use steps::Counts;
 use steps::layout::DEVICE;
 use steps::layout::GIVERS;
+use steps::layout::MASKS;
 use steps::layout::MOST_SLOTS;
 use tables::lay_out;
+use tables::mask::lay_masks;
 
 // No report is longer: `accepted-short`.
-const LONGEST: usize = 14433;
+const LONGEST: usize = 14438;
 
 // What a run gives: the picks taken and the report's length, or a refusal and its line, which is 0 if it is not the plan's.
 pub enum Answer {
@@ -51,11 +56,13 @@ pub enum Answer {
     Refuses(Refusal, u64),
 }
 
-// What the report says of a run besides its tasks.
-fn summary_of(n: Counts, store: &[u64]) -> Summary
+// What the report says of a run besides its tasks; by task, `masks` has its mask.
+fn summary_of(n: Counts, store: &[u64], masks: &[u64]) -> Summary
     requires { ⌜ (sharesSize ≤ length (now store)) × (n .workers ≤ mostWorkers) ⌝ }
+    requires { ⌜ (layout.mostTasks ≤ length (now masks)) × (n .tally .tasks ≤ layout.mostTasks)
+        × ((i : ℕ) → i < n .tally .tasks → getD (now masks) i 0 < 2 ^ 32) ⌝ }
     ensures numbers { λ r. ⌜ (r .picks ≡ n .picks) × (r .head ≡ n .ends .head .0) × (r .tail ≡ n .ends .tail .0)
-        × (r .tasks ≡ n .tally .tasks) ⌝ }
+        × (r .tasks ≡ n .tally .tasks) × (r .permitted ≡ onesOf (now (masks .entry)) (n .tally .tasks)) ⌝ }
     ensures found { λ r. ⌜ ((m : Memory) (c : Setup) (s : State) → Holds c (withCounts m n) (share (now (store .entry))) s →
         (r .finished ≡ finished c s) × (r .owner ≡ optionCode (owner c s))) ⌝ }
 {
@@ -64,6 +71,7 @@ fn summary_of(n: Counts, store: &[u64]) -> Summary
     Summary {
         finished: is_finished(n),
         picks: n.picks,
+        permitted: total_permitted(masks, n.tally.tasks as usize),
         head: head.0,
         tail: tail.0,
         owner: find_owner(store, n.workers),
@@ -108,13 +116,13 @@ fn answer_of(
         × (length (now labels) ≡ layout.labelRows) ⌝ }
     requires { ⌜ ((m : Memory) × (c : Setup) × (s : State) × Sized c × Small c s × Labels (c .tasks) (now text) (now labels)
         × Holds c (withShown m n (now device) (now rows)) (share (now store)) s) ⌝ }
-    ensures { λ r. ⌜ ((m : Memory) (c : Setup) (s : State) (left : List ℕ) → Small c s →
+    ensures { λ r. ⌜ ((m : Memory) (c : Setup) (s : State) (left : List ℕ) → Sized c → Small c s →
         Labels (c .tasks) (now (text .entry)) (now (labels .entry)) →
         Holds c (withShown m n (now (device .entry)) (now (rows .entry))) (share (now (store .entry))) s →
         (r ≡ (written left (now (output .entry)) (s .picks) (report c s)) .answer)
         × (now (output .exit) ≡ (written left (now (output .entry)) (s .picks) (report c s)) .output)) ⌝ }
 {
-    let summary = summary_of(n, store);
+    let summary = summary_of(n, store, &device[MASKS..]);
     let givers = &device[GIVERS..];
     if has_room(summary, text, rows, labels, givers, output.len()) {
         let length = put_report(summary, text, rows, labels, givers, output);
@@ -134,19 +142,20 @@ fn set_up(
     registrations: &mut [u64],
     tickets: &mut [u64],
     cells: &mut [u64],
+    device: &mut [u64],
     rows: &mut [u64],
     accesses: &mut [u64],
     labels: &mut [u64],
 ) -> Counts
-    requires { ⌜ (length (now rows) ≡ layout.taskRows) × (length (now accesses) ≡ layout.accessRows)
-        × (length (now labels) ≡ layout.labelRows) ⌝ }
+    requires { ⌜ (length (now device) ≡ deviceSize) × (length (now rows) ≡ layout.taskRows)
+        × (length (now accesses) ≡ layout.accessRows) × (length (now labels) ≡ layout.labelRows) ⌝ }
     requires { ⌜ ((text : List ℕ) × (p : Plan) × (reading text ≡ accepted p) × LoadedTasks text (now plan) workers form count p) ⌝ }
-    ensures { λ r. ⌜ ((text : List ℕ) (p : Plan) (device store : List ℕ) → reading text ≡ accepted p →
+    ensures { λ r. ⌜ ((text : List ℕ) (p : Plan) (store : List ℕ) → reading text ≡ accepted p →
         LoadedTasks text (now (plan .entry)) workers form count p →
         sharesSize ≤ length store → take sharesSize store ≡ replicate sharesSize 0 →
-        drop GIVERS device ≡ replicate layout.mostTasks 0 →
+        Given layout.mostTasks (now (device .entry)) (λ _. none) →
         Holds (setupOf p)
-        (memory r (now (wait .exit)) (now (registrations .exit)) (now (tickets .exit)) (now (cells .exit)) device
+        (memory r (now (wait .exit)) (now (registrations .exit)) (now (tickets .exit)) (now (cells .exit)) (now (device .exit))
         (now (rows .exit)) (now (accesses .exit)))
         (share store) (start (setupOf p))
         × Labels (p .tasks) text (now (labels .exit))) ⌝ }
@@ -154,6 +163,7 @@ fn set_up(
     let slots = slots_of(form);
     let capacity = capacity_of(form);
     lay_out(plan, count, rows, accesses, labels);
+    lay_masks(plan, count, workers, &mut device[MASKS..]);
     let ends = lock::start(slots, wait, registrations, tickets, cells);
     fresh(ends, workers, slots, capacity, count as u64)
 }
@@ -180,7 +190,7 @@ fn run_in(
     requires { ⌜ (length (now wait) ≡ mostSlots) × (length (now registrations) ≡ mostSlots) × (length (now tickets) ≡ mostWorkers)
         × (length (now cells) ≡ mostWorkers) × (length (now device) ≡ deviceSize) × (length (now rows) ≡ layout.taskRows)
         × (length (now accesses) ≡ layout.accessRows) × (length (now labels) ≡ layout.labelRows)
-        × (drop GIVERS (now device) ≡ replicate layout.mostTasks 0) ⌝ }
+        × Given layout.mostTasks (now device) (λ _. none) ⌝ }
     requires { ⌜ ((p : Plan) × (reading (now text) ≡ accepted p) × Loaded (now text) (now plan) (now lines) read p) ⌝ }
     ensures answer { λ r. ⌜ ((p : Plan) (left : List ℕ) → reading (now (text .entry)) ≡ accepted p →
         Loaded (now (text .entry)) (now (plan .entry)) (now (lines .entry)) read p →
@@ -198,6 +208,7 @@ fn run_in(
         registrations,
         tickets,
         cells,
+        device,
         rows,
         accesses,
         labels,

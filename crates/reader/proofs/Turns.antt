@@ -1,13 +1,13 @@
 -- The turns of the reader's two loops: what a text comes to from a line on, and what is read of the line in hand.
-use Prim.Native.Nat.{ℕ, suc, _+_, _≤_, _<_}
+use Prim.Native.Nat.{ℕ, suc, _+_, _-_, _≤_, _<_}
 use mathlib.Core.Path.{_≡_, refl, sym, ap, _∙_, subst}
-use mathlib.Core.Bool.{Bool, true, false, cond}
+use mathlib.Core.Bool.{Bool, true, false, cond, not, and-false}
 use mathlib.Core.List.{List, [], _∷_, _++_, map, map-append}
 use mathlib.Core.Option.{Option, none, some}
 use native.Mathlib.Omega.{arith}
 use native.Mathlib.Numerals.{add-one}
 use lib.ListN.{length, drop, length-append, length-drop, drop-of-length-le}
-use borrow.Author.Tests.{eq-eqb, ne-eqb}
+use borrow.Author.Tests.{lt-ltb, eq-eqb, ne-eqb}
 use Rattle.refusals.specs.declared.Refusal.{Refusal}
 use Rattle.refusals.specs.declared.Refusal.the-variants.{Malformed, Misplaced, TextTooLong}
 use Rattle.runs.specs.Update.{clash}
@@ -19,15 +19,18 @@ use Rattle.text.specs.FieldLaws.{some-part, field-length, fields-more, fields-r
 use Rattle.plan.specs.declared.field.Access as fields
 use Rattle.plan.specs.declared.field.Access.the-variants as accesses
 use Rattle.plan.specs.declared.form.Form.{Form}
-use Rattle.plan.specs.Plan.{Access, Order, Plan, emptyPlan, withWorkers, withTask, withOrder}
+use Rattle.plan.specs.Plan.{Access, Task, Order, Plan, emptyPlan, withWorkers, withTask, maskLast, withMask, withOrder}
+use Rattle.plan.specs.Permits.{isMasked}
 use Rattle.plan.specs.Line as plans
-use Rattle.plan.specs.Line.{'T', access, accessOf, atStart, isLabel, withCost, lineBy, lineOfFields, taskLine}
+use Rattle.plan.specs.Line.{'T', access, accessOf, atStart, hasOrders, endsUnmasked, afterTask, isLabel, withCost}
+use Rattle.plan.specs.Line.{lineBy, lineOfFields, taskLine}
 use Rattle.plan.specs.Reading.{Reading, accepted, refused, firstRefusal, readLine, readLines, reading}
+use Rattle.plan.specs.Accepted.{mask-length}
 use Rattle.plan.specs.Lengths.{reading-long, reading-short}
 use Rattle.plan.specs.PassFields.{bit, noAccess, ReadAccess}
 use Rattle.kept.specs.Layout as layout
 use Rattle.kept.specs.Tasks.{Placed, rowOf, rowsOf, Labelled, KeepsTasks}
-use Rattle.kept.specs.TaskLaws.{no-tasks, task-kept}
+use Rattle.kept.specs.TaskLaws.{no-tasks, task-kept, mask-kept}
 use Rattle.kept.specs.Orders.{codeOf, seedOf, orderNumbers, KeepsOrders}
 use Rattle.kept.specs.OrderLaws.{no-orders, order-kept}
 use Rattle.lines.specs.declared.accesses.Accesses.{Accesses}
@@ -38,14 +41,14 @@ use Rattle.lines.specs.declared.line.Line.{Line}
 use Rattle.lines.specs.declared.line.Sofar.{Sofar}
 use Rattle.lines.specs.Accesses.{withAccesses, Reads}
 use Rattle.lines.specs.Lines.{Sums, faultOf, faultIn, isWrong, Formless, Makes, IsWhole, Formed, malformed, formed}
-use Rattle.lines.specs.Lines.{bare, headFault, LineAt, whole, task}
+use Rattle.lines.specs.Lines.{taskOf, bare, headFault, LineAt, whole, task}
 use Rattle.lines.specs.Judging.{faultBy, judged}
 use Rattle.reader.specs.Keeping.{Keeps}
 use Rattle.reader.specs.declared.Checked.the-variants.{Accepted}
 use Rattle.reader.specs.declared.ReadPlan.{ReadPlan}
 use Rattle.reader.specs.Verdict.{noPlan, outlined, Lent, Gives}
 use Rattle.lines.proofs.Wholes.{formless-next}
-use Rattle.lines.proofs.Touches.{seen, task-fault, task-room, task-few, task-row}
+use Rattle.lines.proofs.Touches.{seen, task-fault, task-place, task-room, task-few, task-row}
 
 -- ---- a text from a line on, by that line
 
@@ -127,6 +130,7 @@ whole-right : (k : Kind) → IsWhole k → isWrong k ≡ false
 whole-right kinds.Wrong w = absurd w
 whole-right (kinds.Workers form) w = refl
 whole-right kinds.Task w = absurd w
+whole-right kinds.Mask w = refl
 whole-right kinds.Order w = refl
 
 module _ {text : List ℕ} {begin : ℕ} {p : Plan} {line : Line} {row : List ℕ} {n : ℕ} where
@@ -280,6 +284,30 @@ module _ {text : List ℕ} {begin : ℕ} {p : Plan} {line : Line} {at : ℕ} {a 
         same false true e = clash (cc)
         same false false e = refl
 
+-- ---- whether the line before is a task's
+
+ends-more : (ts : List Task) (t : Task) → endsUnmasked (ts ++ t ∷ []) ≡ not (isMasked t)
+unfolding endsUnmasked
+ends-more [] t = refl
+ends-more (u ∷ []) t = refl
+ends-more (u ∷ v ∷ ts) t = ends-more (v ∷ ts) t
+
+ends-masked : (m : ℕ) (ts : List Task) → endsUnmasked (maskLast m ts) ≡ false
+unfolding endsUnmasked maskLast
+ends-masked m [] = refl
+ends-masked m (t ∷ []) = refl
+ends-masked m (t ∷ u ∷ []) = refl
+ends-masked m (t ∷ u ∷ v ∷ ts) = ends-masked m (u ∷ v ∷ ts)
+
+after-task : (p : Plan) (t : Task) → isMasked t ≡ false → hasOrders p ≡ false → afterTask (withTask p t) ≡ true
+after-task p t e h = rw (h, ends-more (p .tasks) t, e)
+
+after-mask : (p : Plan) (m : ℕ) → afterTask (withMask p m) ≡ false
+after-mask p m = rw (ends-masked m (p .tasks)) (and-false (not (hasOrders p)))
+
+after-order : (p : Plan) (o : Order) → afterTask (withOrder p o) ≡ false
+after-order p o = rw (lt-ltb 0 (length (p .orders ++ o ∷ [])) (omega (arith, length-append (p .orders) (o ∷ []))))
+
 -- ---- a line that has ended
 
 -- what is kept of a line without fault makes q of p
@@ -287,7 +315,9 @@ data Adds (text : List ℕ) (line : Line) (row : List ℕ) (p q : Plan) : Type 0
   adds-workers : (form : Form) → line .kind ≡ kinds.Workers form → line .first ≤ 32 → q ≡ withWorkers p (line .first) form
       → Adds text line row p q
   adds-task : line .kind ≡ kinds.Task → (t : Placed) → Labelled text t → length (t .task .accesses) ≤ layout.mostTaskAccesses
-      → row ≡ rowOf t → length (p .tasks) < layout.mostTasks → q ≡ withTask p (t .task) → Adds text line row p q
+      → row ≡ rowOf t → length (p .tasks) < layout.mostTasks → afterTask (withTask p (t .task)) ≡ true → q ≡ withTask p (t .task)
+      → Adds text line row p q
+  adds-mask : line .kind ≡ kinds.Mask → 0 < length (p .tasks) → q ≡ withMask p (line .first) → Adds text line row p q
   adds-order : line .kind ≡ kinds.Order → (o : Order) → codeOf o ≡ line .first → seedOf o ≡ line .second → q ≡ withOrder p o
       → Adds text line row p q
 
@@ -316,28 +346,31 @@ module _ {text : List ℕ} {begin : ℕ} {p : Plan} {line : Line} {at : ℕ} {a 
       fault-same kinds.Wrong w = absurd w
       fault-same (kinds.Workers form) w = refl
       fault-same kinds.Task w = absurd w
+      fault-same kinds.Mask w = refl
       fault-same kinds.Order w = refl
 
       adds-as : (k : Kind) → line .kind ≡ k → Makes k (line .first) (line .second) p (f .l .plan) → Adds text line row p (f .l .plan)
       adds-as kinds.Wrong e m = absurd m
       adds-as (kinds.Workers form) e (q, low) = adds-workers form e low q
       adds-as kinds.Task e m = absurd m
+      adds-as kinds.Mask e (q, before) = adds-mask e before q
       adds-as kinds.Order e (o, q, code, seed) = adds-order e o code seed q
 
   task-ended : TaskRead text begin p line at false a row → Right text begin p line at a row
   task-ended t =
       record {
-        l = taskLine p (record { label = t .label; cost = t .cost; accesses = t .xs });
+        l = taskLine p (taskOf (t .label) (t .cost) (t .xs));
         fs = ('T' ∷ []) ∷ t .label ∷ t .digits ∷ t .fs;
         form = task-form p (t .label) (t .digits) (t .cost) (t .labelled) (t .number) (t .fs) ∙ rw (t .each);
         fields = t .fields;
         judges = rw (t .kind, t .judges) (task-fault p (t .label) (t .cost) (t .xs) (t .reads));
         adds =
             λ good. adds-task (t .kind)
-            (record { at = begin + 2; task = record { label = t .label; cost = t .cost; accesses = t .xs } }) (t .stands)
+            (record { at = begin + 2; task = taskOf (t .label) (t .cost) (t .xs) }) (t .stands)
             (task-few p (t .label) (t .cost) (t .xs) (t .reads) good)
             (task-row p (t .label) (t .cost) (t .xs) (begin + 2) (t .reads) good)
-            (task-room p (t .label) (t .cost) (t .xs) (t .reads) good) refl;
+            (task-room p (t .label) (t .cost) (t .xs) (t .reads) good)
+            (after-task p (taskOf (t .label) (t .cost) (t .xs)) refl (task-place p (t .label) (t .cost) (t .xs) (t .reads) good)) refl;
       }
 
   ended : InLine text begin p line at false a row → Right text begin p line at a row
@@ -425,6 +458,17 @@ module _ {text : List ℕ} {before : Lent} {s : Sofar} {n begin : ℕ} {mid : Le
   not-formed read is h =
       let (formless, reach) = line-wrong (read (g .p) (g .sums)) is in (comes-formless (g .p) n text begin h formless, reach)
 
+  -- an M line without fault has a task before it
+  pub some-task : {line : Line} {at : ℕ} {a : Accesses} {row : List ℕ} → InLine text begin (g .p) line at false a row
+      → judged line a (s .tasks) ≡ Nothing → line .kind ≡ kinds.Mask → 1 ≤ s .tasks
+  some-task {line} {row = row} l e kind = by (line-passes n l (rw (g .sums .tasks) at e) .4)
+    where
+      by : {q : Plan} → Adds text line row (g .p) q → 1 ≤ s .tasks
+      by (adds-workers form k low is) = clash (cc)
+      by (adds-task k t label few row-is room after is) = clash (cc)
+      by (adds-mask k before is) = omega (arith, g .sums .tasks)
+      by (adds-order k o code seed is) = clash (cc)
+
   -- q is kept, with one line more
   record Grown (q : Plan) (r : Sofar) (after : Lent) : Type 0 where
     pub sums : Sums r q
@@ -439,14 +483,14 @@ module _ {text : List ℕ} {before : Lent} {s : Sofar} {n begin : ℕ} {mid : Le
     grown (adds-workers form kind low is) =
         rw (is, rw kind at (k .counts))
         (record {
-          sums = record { workers = refl; form = refl; tasks = g .sums .tasks; orders = g .sums .orders };
+          sums = record { workers = refl; form = refl; tasks = g .sums .tasks; orders = g .sums .orders; after = g .sums .after };
           low = low;
           few = g .few;
           each = omega arith;
           rows = rw (rw kind at (k .rows)) (g .rows);
           lines = rw (rw kind at (k .lines)) (g .lines);
         })
-    grown (adds-task kind t label few row-is room is) =
+    grown (adds-task kind t label few row-is room after is) =
         rw (is, rw kind at (k .counts))
         (record {
           sums =
@@ -455,11 +499,29 @@ module _ {text : List ℕ} {before : Lent} {s : Sofar} {n begin : ℕ} {mid : Le
                 form = g .sums .form;
                 tasks = omega (arith, g .sums .tasks, length-append (g .p .tasks) (t .task ∷ []));
                 orders = g .sums .orders;
+                after = sym after;
               };
           low = g .low;
           few = omega (arith, length-append (g .p .tasks) (t .task ∷ []));
           each = omega arith;
           rows = task-kept (g .rows) t label few (rw (kind, row-is, g .sums .tasks) at (k .rows));
+          lines = rw (rw kind at (k .lines)) (g .lines);
+        })
+    grown (adds-mask kind last is) =
+        rw (is, rw kind at (k .counts))
+        (record {
+          sums =
+              record {
+                workers = g .sums .workers;
+                form = g .sums .form;
+                tasks = g .sums .tasks ∙ sym (mask-length (line .first) (g .p .tasks));
+                orders = g .sums .orders;
+                after = sym (after-mask (g .p) (line .first));
+              };
+          low = g .low;
+          few = omega (arith, mask-length (line .first) (g .p .tasks), g .few);
+          each = omega arith;
+          rows = mask-kept (g .rows) (line .first) (s .tasks - 1) (omega (arith, g .sums .tasks)) (rw kind at (k .rows));
           lines = rw (rw kind at (k .lines)) (g .lines);
         })
     grown (adds-order kind o code seed is) =
@@ -471,6 +533,7 @@ module _ {text : List ℕ} {before : Lent} {s : Sofar} {n begin : ℕ} {mid : Le
                 form = g .sums .form;
                 tasks = g .sums .tasks;
                 orders = omega (arith, g .sums .orders, length-append (g .p .orders) (o ∷ []));
+                after = sym (after-order (g .p) o);
               };
           low = g .low;
           few = g .few;

@@ -5,12 +5,14 @@ ghost use lib.ListN.{length};
 ghost use Rattle.plan.specs.Plan.{emptyPlan};
 ghost use Rattle.plan.specs.Reading.{reading};
 ghost use Rattle.kept.specs.Layout as lay;
+ghost use Rattle.lines.specs.declared.line.Kind.the-variants as kinds;
 ghost use Rattle.lines.specs.Lines.{Sums};
 ghost use Rattle.reader.specs.Keeping.{Keeps};
 ghost use Rattle.reader.specs.Verdict.{verdict, told, toldOf, noPlan, outlined, lent, Gives};
 use kept::layout;
 use kept::orders::OrderRow;
 use kept::orders::keep_order;
+use kept::tasks::keep_mask;
 use kept::tasks::keep_task;
 use lines::accesses::no_accesses;
 use lines::accesses::with_access;
@@ -73,12 +75,14 @@ fn no_lines() -> Sofar
         form: Form::First,
         tasks: 0,
         orders: 0,
+        after_task: false,
     }
 }
 
 // Keeps a line without fault, and counts it.
 fn keep(sofar: Sofar, line: Line, row: &[u64], rows: &mut [u64], orders: &mut [u64]) -> Sofar
-    requires { ⌜ (sofar .tasks ≤ lay.mostTasks) × (sofar .orders ≤ 65536) × (length (now row) ≡ lay.taskRow) ⌝ }
+    requires { ⌜ (sofar .tasks ≤ lay.mostTasks) × (sofar .orders ≤ 65536) × (length (now row) ≡ lay.taskRow)
+        × (line .kind ≡ kinds.Mask → 1 ≤ sofar .tasks) ⌝ }
     ensures { λ r. ⌜ Keeps sofar line (now (row .entry)) (lent (now (rows .entry)) (now (orders .entry)))
         (lent (now (rows .exit)) (now (orders .exit))) r ⌝ }
 {
@@ -92,11 +96,17 @@ fn keep(sofar: Sofar, line: Line, row: &[u64], rows: &mut [u64], orders: &mut [u
                 form,
                 tasks: sofar.tasks,
                 orders: sofar.orders,
+                after_task: sofar.after_task,
             };
         }
         Kind::Task => {
             keep_task(rows, sofar.tasks, row);
             s.tasks = sofar.tasks + 1;
+            s.after_task = true;
+        }
+        Kind::Mask => {
+            keep_mask(rows, sofar.tasks - 1, line.first);
+            s.after_task = false;
         }
         Kind::Order => {
             let order = OrderRow {
@@ -105,6 +115,7 @@ fn keep(sofar: Sofar, line: Line, row: &[u64], rows: &mut [u64], orders: &mut [u
             };
             keep_order(orders, sofar.orders, order);
             s.orders = sofar.orders + 1;
+            s.after_task = false;
         }
     }
     s

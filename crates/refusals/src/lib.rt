@@ -11,9 +11,9 @@ use text::write::put_field;
 pub enum Refusal {
     // a line without line feed, an unknown first field, a wrong number of fields, a field not of its form
     Malformed,
-    // a number out of its range, or a picked worker that there is not
+    // a number out of its range, a picked worker or one in a mask that there is not
     OutOfRange,
-    // W not first or again, T after an order line, an empty text
+    // W not first or again, T after an order line, M elsewhere than directly after T, an empty text
     Misplaced,
     // a 129th task or a fifth access
     TooMany,
@@ -29,6 +29,8 @@ pub enum Refusal {
     TooFewSlots,
     // taken back to the first form: slots and capacity that are not 64 and 8
     OtherSizes,
+    // a task that no worker may run: a mask of 0
+    EmptyMask,
 }
 
 // The paper's number.
@@ -46,6 +48,7 @@ pub fn number_of(refusal: Refusal) -> u64
         Refusal::OutputTooShort => 8,
         Refusal::TooFewSlots => 9,
         Refusal::OtherSizes => 10,
+        Refusal::EmptyMask => 11,
     }
 }
 

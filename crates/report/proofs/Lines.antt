@@ -23,7 +23,7 @@ use Rattle.memory.specs.RowLaws.{outcome-is}
 use Rattle.memory.specs.Labels.{labelAt, labelIn}
 use Rattle.memory.specs.declared.labels.Label.{Label}
 use Rattle.memory.specs.declared.rows.Outcome.{Outcome}
-use Rattle.report.specs.Report.{outcomeFields, taskFields, lockFields, outcomeLine, taskLine, taskLines, report}
+use Rattle.report.specs.Report.{outcomeFields, taskFields, lockFields, totalPermitted, outcomeLine, taskLine, taskLines, report}
 use Rattle.report.specs.Shown.{fieldsOf, TaskShown, Shown}
 use Rattle.report.specs.declared.Summary.{Summary}
 
@@ -87,7 +87,7 @@ module _ {c : Setup} {s : State} {summary : Summary} {table places given bs : Li
 
   -- the first line, those of all tasks, and the last
   pub wrote-report : (i : ℕ) {out mid after last : List ℕ} {at next end : ℕ}
-      → Wrote out 0 (fields (outcomeFields (summary .finished) (summary .picks))) at mid
+      → Wrote out 0 (fields (outcomeFields (summary .finished) (summary .picks) (summary .permitted))) at mid
       → Wrote mid at (plain (taskLines c s 0 (take i (c .tasks)))) next after → i ≡ summary .tasks
       → ((o : Option ℕ) → optionCode o ≡ summary .owner
       → Wrote after next (fields (lockFields (summary .head) (summary .tail) o)) end last)
@@ -95,7 +95,8 @@ module _ {c : Setup} {s : State} {summary : Summary} {table places given bs : Li
   unfolding report
   wrote-report i {out} {mid} {after} {last} {at} {next} {end} u v e w =
       let all : take (summary .tasks) (c .tasks) ≡ c .tasks = rw (shown .count) (take-length (c .tasks)) in
-      let first : Wrote out 0 (fields (outcomeFields (finished c s) (s .picks))) at mid = rw (shown .finished, shown .picks) at u in
+      let first : Wrote out 0 (fields (outcomeFields (finished c s) (s .picks) (totalPermitted c))) at mid =
+      rw (shown .finished, shown .picks, shown .permitted) at u in
       let lines : Wrote mid at (plain (taskLines c s 0 (c .tasks))) next after = rw (e, all) at v in
       let lock : Wrote after next (fields (lockFields (s .lock .head) (s .lock .tail) (owner c s))) end last =
       rw (shown .head, shown .tail) at (w (owner c s) (sym (shown .owner))) in

@@ -1,3 +1,4 @@
 pub mod Report
+pub mod Totals
 pub mod Shown
 pub mod Sizes

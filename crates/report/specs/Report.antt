@@ -4,9 +4,13 @@ use mathlib.Core.Path.{_≡_, refl}
 use mathlib.Core.Bool.{Bool, cond}
 use mathlib.Core.List.{List, [], _∷_, _++_}
 use mathlib.Core.Option.{Option, none, some}
+use lib.ListN.{length}
 use lib.Dec.{leb}
+use Rattle.runs.specs.Sums.{sum}
 use Rattle.text.specs.Text.{bytes, digitsBefore, decimal, numberIf, numberOrNone, line}
 use Rattle.plan.specs.Plan.{Task}
+use Rattle.plan.specs.Permits.{permitted}
+use Rattle.tasks.specs.Accesses.{taskAt}
 use Rattle.tasks.specs.Tasks.{Status, new, waiting, ready, held, running, over, stage}
 use Rattle.machine.specs.State.{Setup, State}
 use Rattle.machine.specs.Step.{finished}
@@ -29,8 +33,9 @@ knownFrom first status n = numberIf (leb (stage first) (stage status)) n
 
 -- ---- the fields of the lines
 
-abbrev pub outcomeFields : Bool → ℕ → List (List ℕ)
-outcomeFields finished picks = bytes "E" ∷ outcomeName finished ∷ decimal picks ∷ []
+-- the outcome, the picks taken, and the total of permitted workers over all tasks
+abbrev pub outcomeFields : Bool → ℕ → ℕ → List (List ℕ)
+outcomeFields finished picks total = bytes "E" ∷ outcomeName finished ∷ decimal picks ∷ decimal total ∷ []
 
 -- worker and receipt appear from run on, the ending when the task is over; the giver from the hand-over on that lets the taker in, so
 -- while the task is still held, or from the taking on
@@ -51,9 +56,12 @@ lockFields head tail owner = bytes "L" ∷ decimal head ∷ decimal tail ∷ num
 
 -- ---- the lines
 
+abbrev pub totalPermitted : Setup → ℕ
+totalPermitted c = sum (length (c .tasks)) (λ i. permitted (c .workers) (taskAt (c .tasks) i))
+
 module _ (c : Setup) (s : State) where
   abbrev pub outcomeLine : List ℕ
-  outcomeLine = line (outcomeFields (finished c s) (s .picks))
+  outcomeLine = line (outcomeFields (finished c s) (s .picks) (totalPermitted c))
 
   abbrev pub taskLine : ℕ → Task → List ℕ
   taskLine i t =

@@ -10,7 +10,7 @@ use Rattle.memory.specs.Codes.{statusCode, optionCode}
 use Rattle.memory.specs.Rows.{TaskRows, outcomeAt}
 use Rattle.memory.specs.Labels.{labelAt, labelIn, Labels}
 use Rattle.machine.specs.Whereabouts.{owner}
-use Rattle.report.specs.Report.{taskFields}
+use Rattle.report.specs.Report.{taskFields, totalPermitted}
 use Rattle.report.specs.declared.Summary.{Summary}
 
 -- the fields of task i's line
@@ -35,6 +35,7 @@ pub record TaskShown (c : Setup) (s : State) (table places given text : List ℕ
 pub record Shown (c : Setup) (s : State) (summary : Summary) (table places given text : List ℕ) : Type 0 where
   pub finished : summary .finished ≡ finished c s
   pub picks : summary .picks ≡ s .picks
+  pub permitted : summary .permitted ≡ totalPermitted c
   pub head : summary .head ≡ s .lock .head
   pub tail : summary .tail ≡ s .lock .tail
   pub owner : summary .owner ≡ optionCode (owner c s)

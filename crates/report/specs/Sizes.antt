@@ -14,9 +14,9 @@ use Rattle.machine.specs.State.{Setup, State}
 use Rattle.machine.specs.Step.{finished}
 use Rattle.memory.specs.Layout as layout
 use Rattle.machine.specs.Whereabouts.{owner}
-use Rattle.report.specs.Report.{outcomeName, statusName, knownFrom, outcomeLine, taskLine, taskLines, lockLine, report}
+use Rattle.report.specs.Report.{outcomeName, statusName, knownFrom, totalPermitted, outcomeLine, taskLine, taskLines, lockLine, report}
 use Rattle.text.specs.Decimals.{decimal-short, decimal-20, numberSize}
-use Rattle.text.specs.Lines.{length-3, length-4, length-8}
+use Rattle.text.specs.Lines.{length-4, length-8}
 
 -- how many bytes the words of a status and of an outcome have at most, with the tab after them
 abbrev pub statusSize : ℕ
@@ -27,7 +27,7 @@ outcomeSize = 9
 
 -- and lines, whatever their numbers
 abbrev pub outcomeLineSize : ℕ
-outcomeLineSize = 2 + outcomeSize + numberSize
+outcomeLineSize = 2 + outcomeSize + 2 * numberSize
 
 abbrev pub taskLineSize : ℕ
 taskLineSize = 2 + numberSize + (layout.mostLabel + 1) + statusSize + 4 * numberSize
@@ -35,15 +35,17 @@ taskLineSize = 2 + numberSize + (layout.mostLabel + 1) + statusSize + 4 * number
 abbrev pub lockLineSize : ℕ
 lockLineSize = 2 + 3 * numberSize
 
--- a task's line has at most 112: its number has three digits, and only `over` has four numbers after it
+-- the first line has at most 37: the total of permitted workers has four digits. A task's line has at most 112: its number has three digits,
+-- and only `over` has four numbers after it
 abbrev pub longest : ℕ
-longest = outcomeLineSize + 112 * layout.mostTasks + lockLineSize
+longest = 37 + 112 * layout.mostTasks + lockLineSize
 
 -- at most so many tasks, labels of at most so many bytes, and numbers of 64 bits
 pub record Small (c : Setup) (s : State) : Type 0 where
   pub tasks : length (c .tasks) ≤ layout.mostTasks
   pub labels : (i : ℕ) → i < length (c .tasks) → length (taskAt (c .tasks) i .label) ≤ layout.mostLabel
   pub picks : s .picks < 2 ^ 64
+  pub permitted : totalPermitted c < 10 ^ 4
   pub head : s .lock .head < 2 ^ 64
   pub tail : s .lock .tail < 2 ^ 64
   pub owner : (w : ℕ) → owner c s ≡ some w → w < 2 ^ 64
@@ -117,9 +119,10 @@ module _ (c : Setup) (s : State) where
         arith,
         length-append (outcomeLine c s ++ taskLines c s 0 (c .tasks)) (lockLine c s),
         length-append (outcomeLine c s) (taskLines c s 0 (c .tasks)),
-        length-3 (bytes "E") (outcomeName (finished c s)) (decimal (s .picks)),
+        length-4 (bytes "E") (outcomeName (finished c s)) (decimal (s .picks)) (decimal (totalPermitted c)),
         outcome-short (finished c s),
         decimal-20 (s .picks) (small .picks),
+        decimal-short 3 (totalPermitted c) (small .permitted),
         length-4 (bytes "L") (decimal (s .lock .head)) (decimal (s .lock .tail)) (numberOrNone (owner c s)),
         decimal-20 (s .lock .head) (small .head),
         decimal-20 (s .lock .tail) (small .tail),

@@ -1,12 +1,13 @@
 // Writes the report: see specs/Report.antt for its bytes, and specs/Shown.antt for what the numbers here say of a state.
 ghost use mathlib.Core.Path.{_≡_};
-ghost use Prim.Native.Nat.{_+_, _^_, _≤_, _<_};
-ghost use lib.ListN.{length};
+ghost use Prim.Native.Nat.{ℕ, _+_, _^_, _≤_, _<_};
+ghost use lib.ListN.{length, getD};
 ghost use Rattle.text.specs.Writing.{plain, fields, Wrote};
 ghost use Rattle.machine.specs.State.{Setup, State};
 ghost use Rattle.memory.specs.Layout as layout;
 ghost use Rattle.memory.specs.Labels.{labelAt};
-ghost use Rattle.report.specs.Report.{report};
+ghost use Rattle.report.specs.Report.{totalPermitted, report};
+ghost use Rattle.report.specs.Totals.{onesOf, Masks};
 ghost use Rattle.report.specs.Sizes.{taskLineSize};
 ghost use Rattle.report.specs.Shown.{fieldsOf, TaskShown, Shown};
 use line::put_lock_line;
@@ -18,15 +19,32 @@ use memory::rows::outcome_of;
 mod line; // line.rt: its lines
 mod word; // word.rt: the words of its fields
 
-// What the report says besides its tasks: whether the run is finished, picks taken, the lock's ends, the owner's number and 1 more, or 0;
-// how many tasks.
+// What the report says besides its tasks: whether the run is finished, picks taken, the total of permitted workers, the lock's ends, the
+// owner's number and 1 more, or 0; how many tasks.
 pub struct Summary {
     pub finished: bool,
     pub picks: u64,
+    pub permitted: u64,
     pub head: u64,
     pub tail: u64,
     pub owner: u64,
     pub tasks: u64,
+}
+
+// The total of permitted workers over n tasks: the ones of their masks.
+pub fn total_permitted(masks: &[u64], n: usize) -> u64
+    requires { ⌜ (n ≤ layout.mostTasks) × (n ≤ length (now masks)) × ((i : ℕ) → i < n → getD (now masks) i 0 < 2 ^ 32) ⌝ }
+    ensures numbers { λ r. ⌜ r ≡ onesOf (now (masks .entry)) n ⌝ }
+    ensures meaning { λ r. ⌜ ((c : Setup) → n ≡ length (c .tasks) → Masks c (now (masks .entry)) → r ≡ totalPermitted c) ⌝ }
+{
+    let mut total: u64 = 0;
+    let mut i: usize = 0;
+    while i < n {
+        let mask = masks[i] as u32;
+        total += u32::count_ones(mask) as u64;
+        i += 1;
+    }
+    total
 }
 
 // Writes a task's line, with its label out of the plan's text.
@@ -70,7 +88,13 @@ pub fn put_report(
         → Wrote (now (output .entry)) 0 (plain (report c s)) r (now (output .exit))) ⌝ }
 {
     let n = summary.tasks as usize;
-    let mut next = put_outcome_line(summary.finished, summary.picks, output, 0);
+    let mut next = put_outcome_line(
+        summary.finished,
+        summary.picks,
+        summary.permitted,
+        output,
+        0,
+    );
     let mut i: usize = 0;
     while i < n {
         next = put_task(i, text, tasks, labels, givers, output, next);

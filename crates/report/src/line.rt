@@ -18,14 +18,21 @@ use text::number::put_if;
 use text::number::put_number;
 use text::write::put_field;
 
-pub(crate) fn put_outcome_line(finished: bool, picks: u64, out: &mut [u8], at: usize) -> usize
+pub(crate) fn put_outcome_line(
+    finished: bool,
+    picks: u64,
+    permitted: u64,
+    out: &mut [u8],
+    at: usize,
+) -> usize
     requires { ⌜ at + outcomeLineSize < 2 ^ 64 ⌝ }
     ensures short { λ r. ⌜ r ≤ at + outcomeLineSize ⌝ }
-    ensures wrote { λ r. ⌜ Wrote (now (out .entry)) at (fields (outcomeFields finished picks)) r (now (out .exit)) ⌝ }
+    ensures wrote { λ r. ⌜ Wrote (now (out .entry)) at (fields (outcomeFields finished picks permitted)) r (now (out .exit)) ⌝ }
 {
     let next = put_field(b"E", b'\t', out, at);
     let next = put_outcome(finished, out, next);
-    put_number(picks, b'\n', out, next)
+    let next = put_number(picks, b'\t', out, next);
+    put_number(permitted, b'\n', out, next)
 }
 
 pub(crate) fn put_lock_line(head: u64, tail: u64, owner: u64, out: &mut [u8], at: usize) -> usize

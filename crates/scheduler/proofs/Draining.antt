@@ -7,25 +7,26 @@ use mathlib.Core.Path.{_≡_, refl, sym, ap, _∙_}
 use mathlib.Core.Logic.{_⊎_, inl, inr, _≢_}
 use mathlib.Core.Bool.{Bool, true, false}
 use mathlib.Core.List.{List, [], _++_}
-use lib.ListN.{length, getD, length-append}
+use lib.ListN.{length, getD}
 use lib.Seq.{getD-set-other}
 use lib.Dec.{ltb}
 use borrow.Author.Tests.{lt-ltb, le-ltb}
 use Rattle.runs.specs.Update.{upd, upd-id, upd-all, upd-both, map-upd}
 use Rattle.runs.specs.Circular.{entries}
-use Rattle.runs.specs.Circular.{entries-length}
 use Rattle.machine.specs.State.{Setup, State, Purpose, forServing, forAdding}
 use Rattle.machine.specs.State.{Place, idle, trying, registering, looking, draining, serving, handing, leaving}
+use Rattle.machine.specs.Ready.{arrive}
 use Rattle.machine.specs.Step.{afterDraining, nextDrain}
 use Rattle.machine.specs.Events.{event-drain}
 use Rattle.machine.specs.Ranges.{Fit, acted}
-use Rattle.steps.specs.Layout.{stationSize, placeAt, numberAt, queuedAt, slotAt, queueFrom, mostWorkers, queueSlots, READY, GIVERS}
+use Rattle.steps.specs.Layout.{stationSize, placeAt, numberAt, queuedAt, slotAt, queueFrom, mostWorkers, queueSlots, READY, GIVERS, MASKS}
 use Rattle.steps.specs.Layout.{DRAINING_TO_SERVE, DRAINING_TO_ADD, SERVING, LEAVING}
 use Rattle.steps.specs.Codes.{Coded}
 use Rattle.steps.specs.Memory.{part, station, Stationed, Slotted, drained, Memory, Holds}
 use Rattle.steps.specs.declared.Counts.{Counts}
 use Rattle.steps.proofs.Parts.{station-at, part-of, station-of}
 use Rattle.steps.proofs.Stations.{queue-count}
+use Rattle.steps.proofs.Choosing.{ready-length, arrive-length}
 use Rattle.scheduler.specs.Lent.{withDevice}
 use Rattle.scheduler.proofs.Lending.{withStation}
 
@@ -169,10 +170,10 @@ module _ {c : Setup} {m : Memory} {shares : ℕ → List ℕ} {s : State} {w : �
 
     pub drained-room : m .counts .ready + getD (stations k) queuedAt 0 ≤ READY
     drained-room =
-        let after : length (s .readyList ++ s .queue k) ≤ READY = rw (event-drain c s w stands-at) at (fit .room-ready) in
-        let counted = entries-length (λ i. getD (m .device) i 0) READY (m .counts .«ready_at») (m .counts .ready) in
+        let after : length (arrive (s .readyList) (s .queue k)) ≤ READY = rw (event-drain c s w stands-at) at (fit .room-ready) in
+        let counted = ready-length (m .counts) (m .device) in
         let queued = queue-count (h .device .stationed k drained-worker) in
-        omega (arith, simp length-append at after, counted, ap length (h .device .ready), queued)
+        omega (arith, arrive-length (s .readyList) (s .queue k), counted, ap length (h .device .ready), queued)
 
     module _ {one : List ℕ} (emptied : (p : Place) (q : List ℕ) → Stationed (stations k) p q → Stationed one p []) where
       emptied-all : (v : ℕ) → v < c .workers → Stationed (upd stations k one v) (s .place v) (upd (s .queue) k [] v)
@@ -195,7 +196,7 @@ module _ {c : Setup} {m : Memory} {shares : ℕ → List ℕ} {s : State} {w : �
       pub drain-acts : (two more : List ℕ) (r : ℕ)
           → ((p : Place) (q is : List ℕ) → Stationed (stations k) p q
           → entries (λ i. getD (m .device) i 0) READY (m .counts .«ready_at») (m .counts .ready) ≡ is
-          → entries (λ i. getD more i 0) READY (m .counts .«ready_at») r ≡ is ++ q)
+          → entries (λ i. getD more i 0) READY (m .counts .«ready_at») r ≡ arrive is q)
           → ((j : ℕ) → GIVERS ≤ j → getD more j 0 ≡ getD (m .device) j 0)
           → getD one slotAt 0 ≡ getD (stations k) slotAt 0
           → ((x : Purpose) (q : List ℕ) → Stationed (upd stations k one w) (draining x k) q → Stationed two (nextDrain c x k) q)
@@ -225,6 +226,7 @@ module _ {c : Setup} {m : Memory} {shares : ℕ → List ℕ} {s : State} {w : �
                       (λ l. slotted-next c (stands .0) k (c .slots) two) (λ v d l. slots v l) v l;
                   ready-at = h .device .ready-at;
                   givers = λ i l. kept (GIVERS + i) (omega arith) ∙ h .device .givers i l;
+                  masks = λ i l. kept (MASKS + i) (omega arith) ∙ h .device .masks i l;
                   ready = moved (s .place k) (s .queue k) (s .readyList) (h .device .stationed k drained-worker) (h .device .ready);
                 });
             picks = h .picks;

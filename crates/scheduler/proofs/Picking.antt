@@ -67,6 +67,7 @@ module _ {m : Memory} where
           ready-at = h .device .ready-at;
           ready = h .device .ready;
           givers = h .device .givers;
+          masks = h .device .masks;
         };
         picks = omega (arith, h .picks);
       }

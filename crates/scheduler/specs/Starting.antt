@@ -3,7 +3,8 @@ use Prim.Native.Nat.{ℕ, _+_, _*_, _≤_, _<_}
 use native.Mathlib.Omega.{arith}
 use mathlib.Core.Path.{_≡_, refl, sym, ap, _∙_}
 use mathlib.Core.List.{List, []}
-use lib.ListN.{length, getD, take, drop, replicate, length-take, length-drop, length-replicate, getD-replicate, List·getD-eq-default}
+use mathlib.Core.Option.{none}
+use lib.ListN.{length, getD, take, drop, replicate, length-take, length-drop, getD-replicate, List·getD-eq-default}
 use lib.Seq.{getD-take, getD-drop}
 use mathlib.Core.Logic.{⊎-elim}
 use Rattle.runs.specs.Update.{order}
@@ -18,8 +19,8 @@ use Rattle.memory.specs.Rows.{TaskRows, AccessRows}
 use Rattle.memory.specs.Memory.{freshTally}
 use Rattle.memory.specs.Starting as tasks
 use Rattle.machine.specs.State.{Setup, idle, start}
-use Rattle.steps.specs.Layout.{shareSize, stationSize, placeAt, queuedAt, queueFrom, queueSlots, mostWorkers, sharesSize, READY, GIVERS}
-use Rattle.steps.specs.Memory.{share, part, station, Stationed, Holds}
+use Rattle.steps.specs.Layout.{shareSize, stationSize, placeAt, queuedAt, queueFrom, queueSlots, mostWorkers, sharesSize, READY}
+use Rattle.steps.specs.Memory.{share, part, station, Stationed, Given, Masked, Holds}
 use Rattle.steps.specs.declared.Counts.{Counts}
 use Rattle.scheduler.specs.Lent.{memory}
 
@@ -77,23 +78,12 @@ module _ (store : List ℕ) (long : sharesSize ≤ length store) (zeros : take s
   part-long : length (part (share store w)) ≡ layout.part
   part-long = omega (arith, share-long, length-drop stationSize (share store w))
 
--- ---- the device's array without a giver
-
-no-giver : (device : List ℕ) → drop GIVERS device ≡ replicate layout.mostTasks 0 → (i : ℕ) → getD device (GIVERS + i) 0 ≡ 0
-no-giver device ungiven i =
-    sym (getD-drop GIVERS device i 0) ∙ ap (λ (xs : List ℕ). getD xs i 0) ungiven
-    ∙ ⊎-elim
-    (λ (l : i < layout.mostTasks). getD-replicate layout.mostTasks i 0 0 l)
-    (λ (l : layout.mostTasks ≤ i).
-    let zeros : List ℕ = replicate layout.mostTasks 0 in
-    let past : length zeros ≤ i = omega (arith, length-replicate {A = ℕ} layout.mostTasks 0) in
-    List·getD-eq-default zeros 0 past)
-    (order i layout.mostTasks)
+-- ---- and a device's array with no giver and with the plan's masks
 
 module _ (c : Setup) (few : c .workers ≤ mostWorkers) where
   pub starts : (ends : Ends) (wait registrations tickets cells device rows accesses store : List ℕ)
       → sharesSize ≤ length store → take sharesSize store ≡ replicate sharesSize 0
-      → drop GIVERS device ≡ replicate layout.mostTasks 0
+      → Given (length (c .tasks)) device (λ _. none) → Masked (c .workers) (c .tasks) device
       → lockOf (c .slots) (ends .head .0) (ends .tail .0) wait registrations tickets cells ≡ L.start (c .slots)
       → TaskRows (c .tasks) rows (λ _. 0) (λ _. T.new) (λ _. 0) (λ _. 0) (λ _. 0) → AccessRows (c .tasks) accesses (λ _. noFlag)
       → Holds c
@@ -101,7 +91,7 @@ module _ (c : Setup) (few : c .workers ≤ mostWorkers) where
       accesses)
       (share store) (start c)
   unfolding start
-  starts ends wait registrations tickets cells device rows accesses store long zeros ungiven lock task-rows access-rows =
+  starts ends wait registrations tickets cells device rows accesses store long zeros givers masks lock task-rows access-rows =
       record {
         lock = lock;
         tasks = tasks.starts (c .workers) (c .tasks) rows accesses (λ v. part (share store v)) task-rows access-rows
@@ -115,7 +105,8 @@ module _ (c : Setup) (few : c .workers ≤ mostWorkers) where
           slotted = λ v l. tt;
           ready-at = omega arith;
           ready = entries-none (λ k. getD device k 0) READY 0;
-          givers = λ i l. no-giver device ungiven i;
+          givers = givers;
+          masks = masks;
         };
         picks = refl;
       }

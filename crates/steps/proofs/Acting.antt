@@ -18,7 +18,7 @@ use Rattle.machine.specs.Step.{lockOp, taskOp, effect, lockAfter}
 use Rattle.machine.specs.Ranges.{Fit, acted}
 use Rattle.steps.specs.Layout.{shareSize, stationSize, queueSlots, mostSlots, READY}
 use Rattle.steps.specs.declared.Counts.{Counts}
-use Rattle.steps.specs.Memory.{part, station, Stationed, Slotted, Memory, Given, Holds, Able}
+use Rattle.steps.specs.Memory.{part, station, Stationed, Slotted, Memory, Given, Masked, Holds, Able}
 use Rattle.steps.proofs.Parts.{parts-upd}
 
 -- the numbers of the plan stay
@@ -40,9 +40,10 @@ module _ {c : Setup} {m : Memory} {shares : ℕ → List ℕ} {s : State} {w : �
       → n .counts .«ready_at» < READY
       → entries (λ k. getD (n .device) k 0) READY (n .counts .«ready_at») (n .counts .ready) ≡ effect c s w e .readyList
       → Given (length (c .tasks)) (n .device) (effect c s w e .giver)
+      → Masked (c .workers) (c .tasks) (n .device)
       → n .counts .picks ≡ m .counts .picks
       → Holds c n (upd shares w next) (acted c s w)
-  acts-hold n next lock tasks (workers, slots, capacity) own slot others ready-at ready givers picks =
+  acts-hold n next lock tasks (workers, slots, capacity) own slot others ready-at ready givers masks picks =
       rw is
       (record {
         lock = lock;
@@ -57,6 +58,7 @@ module _ {c : Setup} {m : Memory} {shares : ℕ → List ℕ} {s : State} {w : �
               ready-at = ready-at;
               ready = ready;
               givers = givers;
+              masks = masks;
             };
         picks = picks ∙ h .picks;
       })

@@ -62,6 +62,7 @@ module _ {m : Memory} {own : List ℕ} {w : ℕ} (a : Able m own w) (at : getD o
       (a .holds .device .ready-at)
       (a .holds .device .ready)
       (a .holds .device .givers)
+      (a .holds .device .masks)
       refl
 
   pub mind-acts : (numbers.free < getD own (stationSize + numbers.stand) 0) ⊎ (0 < getD own (stationSize + numbers.mailCount) 0)
@@ -114,6 +115,7 @@ module _ {m : Memory} {own : List ℕ} {w : ℕ} (a : Able m own w) (at : getD o
               (a .holds .device .ready-at)
               (a .holds .device .ready)
               (a .holds .device .givers)
+              (a .holds .device .masks)
               refl
 
       pub full-acts : m .counts .capacity ≤ getD own queuedAt 0 → (z : List ℕ)
@@ -134,4 +136,5 @@ module _ {m : Memory} {own : List ℕ} {w : ℕ} (a : Able m own w) (at : getD o
           (a .holds .device .ready-at)
           (a .holds .device .ready)
           (a .holds .device .givers)
+          (a .holds .device .masks)
           refl

@@ -59,7 +59,7 @@ DRAINING_TO_SERVE = 7
 abbrev pub DRAINING_TO_ADD : ℕ
 DRAINING_TO_ADD = 8
 
--- the most slots of a ring; the ready list; the device's array has its slots, and behind them by task its giver
+-- the most slots of a ring; the ready list; the device's array has its slots, and behind them by task its giver, then by task its mask
 abbrev pub mostSlots : ℕ
 mostSlots = 64
 
@@ -69,8 +69,11 @@ READY = 128
 abbrev pub GIVERS : ℕ
 GIVERS = READY
 
+abbrev pub MASKS : ℕ
+MASKS = GIVERS + layout.mostTasks
+
 abbrev pub deviceSize : ℕ
-deviceSize = GIVERS + layout.mostTasks
+deviceSize = MASKS + layout.mostTasks
 
 -- the workers, and the shares of all of them
 abbrev pub mostWorkers : ℕ

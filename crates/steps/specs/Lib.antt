@@ -1,4 +1,5 @@
 pub mod Layout
 pub mod Codes
 pub mod Memory
+pub mod Ready
 pub mod Shares

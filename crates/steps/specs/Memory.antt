@@ -8,12 +8,15 @@ use Rattle.runs.specs.Update.{upd}
 use Rattle.lock.specs.Arrays.{lockOf}
 use Rattle.lock.specs.declared.Ends.{Ends}
 use Rattle.runs.specs.Circular.{entries}
+use Rattle.plan.specs.Plan.{Task}
+use Rattle.plan.specs.PermitLaws.{maskOf}
+use Rattle.tasks.specs.Accesses.{taskAt}
 use Rattle.memory.specs.Codes.{optionCode}
 use Rattle.memory.specs.Memory as T
 use Rattle.memory.specs.declared.tally.Tally.{Tally}
 use Rattle.machine.specs.State.{Setup, Place, idle, trying, registering, looking, draining, serving, handing, leaving, State}
 use Rattle.machine.specs.Ranges.{Fit, acted}
-use Rattle.steps.specs.Layout.{shareSize, stationSize, placeAt, numberAt, queuedAt, slotAt, queueFrom, queueSlots, mostWorkers, mostSlots, READY, GIVERS, deviceSize}
+use Rattle.steps.specs.Layout.{shareSize, stationSize, placeAt, numberAt, queuedAt, slotAt, queueFrom, queueSlots, mostWorkers, mostSlots, READY, GIVERS, MASKS, deviceSize}
 use Rattle.steps.specs.Codes.{Coded}
 use Rattle.steps.specs.declared.Counts.{Counts}
 
@@ -139,6 +142,10 @@ oneTaken n =
 abbrev pub Given : ℕ → List ℕ → (ℕ → Option ℕ) → Type 0
 Given tasks device giver = (i : ℕ) → i < tasks → getD device (GIVERS + i) 0 ≡ optionCode (giver i)
 
+-- by task, its mask
+abbrev pub Masked : ℕ → List Task → List ℕ → Type 0
+Masked W tasks device = (i : ℕ) → i < length tasks → getD device (MASKS + i) 0 ≡ maskOf W (taskAt tasks i .mask)
+
 -- the device's part
 pub record HoldsDevice (c : Setup) (n : Counts) (device : List ℕ) (stations : ℕ → List ℕ) (place : ℕ → Place) (queue : ℕ → List ℕ)
     (readyList : List ℕ) (giver : ℕ → Option ℕ) : Type 0 where
@@ -150,11 +157,12 @@ pub record HoldsDevice (c : Setup) (n : Counts) (device : List ℕ) (stations : 
   pub ready-at : n .«ready_at» < READY
   pub ready : entries (λ k. getD device k 0) READY (n .«ready_at») (n .ready) ≡ readyList
   pub givers : Given (length (c .tasks)) device giver
+  pub masks : Masked (c .workers) (c .tasks) device
 
 -- A state lies in this memory and these shares. What neither this nor `HoldsTasks` speaks of is left to the program: in the device's part
 -- the numbers without a name, the slots behind the queue, the number of a place that speaks of none, and the noted slot where it doesn't
--- look; the slots of the ready list without a task; the givers past the last task; the shares past the last worker's. They may be any
--- numbers, before and after: what is held after a step does not depend on them.
+-- look; the slots of the ready list without a task; the givers and the masks past the last task; the shares past the last worker's. They
+-- may be any numbers, before and after: what is held after a step does not depend on them.
 pub record Holds (c : Setup) (m : Memory) (shares : ℕ → List ℕ) (s : State) : Type 0 where
   pub lock :
       lockOf (c .slots) (m .counts .ends .head .0) (m .counts .ends .tail .0) (m .wait) (m .registrations) (m .tickets) (m .cells) ≡ s .lock

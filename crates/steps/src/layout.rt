@@ -31,11 +31,13 @@ pub const DRAINING_TO_SERVE: u64 = 7;
 
 pub const DRAINING_TO_ADD: u64 = 8;
 
-// The most slots of a ring. The ready list; the device's array has its slots, and behind them by task its giver.
+// The most slots of a ring. The ready list; the device's array has its slots, and behind them by task its giver, then by task its mask.
 pub const MOST_SLOTS: usize = 64;
 
 pub const READY: u64 = 128;
 
 pub const GIVERS: usize = READY as usize;
 
-pub const DEVICE: usize = GIVERS + MOST_TASKS;
+pub const MASKS: usize = GIVERS + MOST_TASKS;
+
+pub const DEVICE: usize = MASKS + MOST_TASKS;

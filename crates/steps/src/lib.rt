@@ -20,6 +20,7 @@ use station::go;
 use station::push;
 
 pub mod layout; // layout.rt: names of offsets and codes
+pub mod ready; // ready.rt: the ready list
 pub mod station; // station.rt: the device's part of a share
 
 // The lock's ends; the plan's workers, slots and capacity; the slot of the oldest ready task and how many are ready; picks taken; the

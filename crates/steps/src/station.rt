@@ -5,6 +5,7 @@ ghost use Prim.Native.Nat.{ℕ, _+_, _≤_, _<_};
 ghost use lib.ListN.{length, getD, set};
 ghost use Rattle.runs.specs.Circular.{entries};
 ghost use Rattle.machine.specs.State.{Place};
+ghost use Rattle.machine.specs.Ready.{arrive};
 ghost use Rattle.steps.specs.Layout.{stationSize, queuedAt, slotAt, queueSlots, LOOKING, READY};
 ghost use Rattle.steps.specs.Codes.{Coded};
 ghost use Rattle.steps.specs.Memory.{Stationed, moved, pushed, emptied, drained};
@@ -61,7 +62,7 @@ pub fn drain(own: &mut [u64], ready: &mut [u64], at: u64, n: u64) -> u64
     ensures station { λ _. ⌜ ((p : Place) (queue : List ℕ) → Stationed (now (own .entry)) p queue → Stationed (now (own .exit)) p []) ⌝ }
     ensures ready { λ r. ⌜ ((p : Place) (queue tasks : List ℕ) →
         Stationed (now (own .entry)) p queue → entries (λ k. getD (now (ready .entry)) k 0) READY at n ≡ tasks
-        → entries (λ k. getD (now (ready .exit)) k 0) READY at r ≡ tasks ++ queue) ⌝ }
+        → entries (λ k. getD (now (ready .exit)) k 0) READY at r ≡ arrive tasks queue) ⌝ }
 {
     let count = own[QUEUED];
     if count == 0 {

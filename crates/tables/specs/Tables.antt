@@ -4,6 +4,7 @@ use mathlib.Core.Path.{_≡_}
 use mathlib.Core.List.{List, [], _∷_}
 use lib.ListN.{length, getD, drop}
 use Rattle.plan.specs.Plan.{Task, Plan}
+use Rattle.plan.specs.PermitLaws.{maskOf}
 use Rattle.plan.specs.Reading.{reading, accepted}
 use Rattle.tasks.specs.Accesses as plan
 use Rattle.tasks.specs.Accesses.{taskAt, addr}
@@ -41,6 +42,10 @@ accessRowOf ts a = newAccess (plan.taskOf ts a) (plan.reader ts a) (optionCode (
 
 abbrev pub labelRowOf : List ℕ → ℕ → List ℕ
 labelRowOf plan i = rowAt plan i .place ∷ rowAt plan i .size ∷ []
+
+-- and of its mask
+abbrev pub maskRowOf : ℕ → List Task → ℕ → List ℕ
+maskRowOf W ts i = maskOf W (taskAt ts i .mask) ∷ []
 
 -- the first n rows, which are so wide, are these, and what is behind them is as it was before
 pub record LaidRows (wide n : ℕ) (row : ℕ → List ℕ) (before after : List ℕ) : Type 0 where

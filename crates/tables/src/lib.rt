@@ -10,6 +10,7 @@ use access::lay_plan_accesses;
 use task::lay_plan_tasks;
 
 mod access; // access.rt: the rows of accesses
+pub mod mask; // mask.rt: the masks of tasks
 mod task; // task.rt: the rows of tasks, and where labels stand
 
 // Lays a plan into rows: its tasks, not yet created, its accesses, with no flag set, and where its labels stand.

@@ -4,7 +4,7 @@ use Prim.Native.Nat.{ℕ, suc, _-_, _<_}
 use mathlib.Core.Path.{_≡_}
 use mathlib.Core.Bool.{Bool, true, false, not, _&&_, _||_, cond}
 use mathlib.Core.List.{List, [], _∷_, _++_}
-use mathlib.Core.Option.{Option}
+use mathlib.Core.Option.{Option, none}
 use lib.ListN.{length, getD, take}
 use lib.Dec.{eqb, ltb}
 use Rattle.runs.specs.Sums.{sum}
@@ -24,7 +24,7 @@ taskOf (t ∷ ts) a = elim (ltb a (length (t .accesses))) [ true ↦ 0 | false �
 
 -- what stands for a task, and for an access, that is not there
 abbrev pub noTask : Task
-noTask = record { label = []; cost = 0; accesses = [] }
+noTask = record { label = []; cost = 0; accesses = []; mask = none }
 
 abbrev pub noAccess : Access
 noAccess = record { writes = false; address = 0 }

@@ -77,7 +77,7 @@ step ts s w = acted ts s w (chooses ts s w)
 -- ---- what is played
 
 abbrev pub costing : ℕ → List Access → Task
-costing n xs = record { label = []; cost = n; accesses = xs }
+costing n xs = record { label = []; cost = n; accesses = xs; mask = none }
 
 -- a task of no cost
 abbrev pub costless : List Access → Task

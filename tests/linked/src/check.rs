@@ -4,7 +4,7 @@
 use crate::bench::{check, Checked};
 use second::looks::bounds;
 use second::plan::Refusal;
-use second::random::{damaged, plan, Rng, Shape};
+use second::random::{damaged, has_masks, plan, Rng, Shape};
 
 /// A random text: mostly a damaged one, else a plan, now and then one of 65,536 bytes.
 pub fn random_text(rng: &mut Rng) -> Vec<u8> {
@@ -54,8 +54,12 @@ pub fn compare_text(text: &[u8]) -> Result<Result<(), Refusal>, String> {
 #[derive(Clone, Copy, Debug, Default, PartialEq, Eq)]
 pub struct Counts {
     pub accepted: u64,
+    /// Of these with M lines.
+    pub with_masks: u64,
     /// By the refusal's number.
-    pub refused: [u64; 10],
+    pub refused: [u64; 12],
+    /// Refused in an M line.
+    pub in_masks: u64,
     /// Refused in one of several lines, and of these not in the last.
     pub of_several: u64,
     pub before_the_last: u64,
@@ -65,12 +69,16 @@ impl Counts {
     fn add(&mut self, text: &[u8], verdict: Result<(), Refusal>) {
         let Err(Refusal { number, line }) = verdict else {
             self.accepted += 1;
+            self.with_masks += u64::from(has_masks(text));
             return;
         };
         self.refused[usize::from(number)] += 1;
-        let lines = text.split_inclusive(|&byte| byte == b'\n').count() as u64;
-        self.of_several += u64::from(line > 0 && lines > 1);
-        self.before_the_last += u64::from(line > 0 && line < lines);
+        let lines: Vec<&[u8]> = text.split_inclusive(|&byte| byte == b'\n').collect();
+        let count = lines.len() as u64;
+        self.of_several += u64::from(line > 0 && count > 1);
+        self.before_the_last += u64::from(line > 0 && line < count);
+        let refused = lines.get((line as usize).wrapping_sub(1));
+        self.in_masks += u64::from(refused.is_some_and(|line| has_masks(line)));
     }
 }
 

@@ -1,6 +1,6 @@
 //! The proved functions as Rust sees them: safe wrappers (`lock`, `bench`,
 //! `convert`), and comparisons with the second implementation: of answers (`check`,
-//! `many`, `moved`) and of times (`speed`).
+//! `many`, `moved`) and of times (`speed`). `known` tells builds of different age apart.
 
 pub mod arguments;
 pub mod bench;
@@ -8,6 +8,7 @@ pub mod check;
 pub mod convert;
 mod declared;
 pub mod fence;
+pub mod known;
 pub mod lock;
 pub mod many;
 pub mod moved;

@@ -3,9 +3,10 @@
 
 use crate::bench::{run, REPORT_SIZE};
 use crate::fence::Fenced;
-use second::plan::Refusal;
-use second::random::{damaged, first_form, plan, Rng, Shape};
-use second::run::{run as second_run, Reported, STORE_SIZE};
+use crate::known::Known;
+use second::plan::{check, Refusal};
+use second::random::{damaged, plan, Rng, Shape};
+use second::run::{play, run as second_run, Reported, STORE_SIZE};
 
 /// Where no limit is drawn a run still ends here at the latest.
 const LONG: u64 = 100_000;
@@ -127,10 +128,9 @@ pub fn random_call(rng: &mut Rng) -> Call {
     call_of(rng, text)
 }
 
-/// A call with a text that means the same, or is refused alike, where the second
-/// form of a plan is unknown.
-pub fn first_form_call(rng: &mut Rng) -> Call {
-    let text = first_form(rng, random_text);
+/// A call with a text that means the same, or is refused alike, where no more is known.
+pub fn known_call(rng: &mut Rng, known: Known) -> Call {
+    let text = known.draw(rng, random_text);
     call_of(rng, text)
 }
 
@@ -147,21 +147,57 @@ fn call_of(rng: &mut Rng, text: Vec<u8>) -> Call {
     }
 }
 
-/// Compares so many random calls, and counts the answers: reports first, then by
-/// refusal number. Also all picks taken.
-pub fn compare_many(calls: u64, seed: u64) -> Result<([u64; 10], u64), (Box<Call>, String)> {
+/// How often calls were answered in which way, and what M lines did in their runs.
+#[derive(Clone, Copy, Debug, Default, PartialEq, Eq)]
+pub struct Counts {
+    /// Reports first, then by refusal number.
+    pub answers: [u64; 12],
+    /// All picks taken.
+    pub picks: u64,
+    /// Reports of plans with M lines.
+    pub with_masks: u64,
+    /// Of these, runs with a task that was served or taken past the first ready one.
+    pub passed_over: u64,
+    /// Runs in which serving stopped at a waiter that may run no ready task.
+    pub stopped_serving: u64,
+    /// Runs in which an owner may run no ready task and took none.
+    pub left_ready: u64,
+}
+
+impl Counts {
+    fn add(&mut self, call: &Call, answer: Result<Reported, Refusal>) {
+        match answer {
+            Ok(reported) => {
+                self.answers[0] += 1;
+                self.picks += reported.picks;
+                self.add_masks(call);
+            }
+            Err(refusal) => self.answers[usize::from(refusal.number)] += 1,
+        }
+    }
+
+    fn add_masks(&mut self, call: &Call) {
+        let Ok(plan) = check(&call.text) else { return };
+        if plan.has_masks() {
+            let counters = play(&plan, call.limit).counters;
+            self.with_masks += 1;
+            self.passed_over += u64::from(counters.served_past + counters.taken_past > 0);
+            self.stopped_serving += u64::from(counters.stopped_serving > 0);
+            self.left_ready += u64::from(counters.left_ready > 0);
+        }
+    }
+}
+
+/// Compares so many random calls, and counts them.
+pub fn compare_many(calls: u64, seed: u64) -> Result<Counts, (Box<Call>, String)> {
     let mut rng = Rng::new(seed);
-    let (mut counts, mut picks) = ([0; 10], 0);
+    let mut counts = Counts::default();
     for _ in 0..calls {
         let call = random_call(&mut rng);
         match compare(&call) {
-            Ok(Ok(reported)) => {
-                counts[0] += 1;
-                picks += reported.picks;
-            }
-            Ok(Err(refusal)) => counts[usize::from(refusal.number)] += 1,
+            Ok(answer) => counts.add(&call, answer),
             Err(what) => return Err((Box::new(call), what)),
         }
     }
-    Ok((counts, picks))
+    Ok(counts)
 }

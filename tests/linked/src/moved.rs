@@ -9,7 +9,7 @@ use crate::fence::Fenced;
 use crate::many::{difference, used_output, used_store};
 use second::convert::{to_first, to_second, Converter};
 use second::plan::{Form, Refusal, CAPACITY, SLOTS, TEXT_LIMIT};
-use second::random::{first_form, plan_of_size, with_sizes, Rng};
+use second::random::{first_form, has_masks, plan_of_size, with_sizes, Rng};
 use second::run::STORE_SIZE;
 
 /// A converter: the proved one, and the second implementation's.
@@ -62,7 +62,9 @@ const LONG_RESULT: &str = "to-second: refused with 6 by its result";
 const JUST_TOO_LONG: &str = "to-second: refused with 6 by a result of 65537";
 const LATER_FAULT: &str = "other sizes and a fault in a later line";
 const BACK: &str = "moved, and back to the old bytes";
-const REPORTED: &str = "moved, with the same report";
+const REPORTED: &str = "moved, without M lines, with the same report";
+const TIED: &str = "moved, with M lines";
+const TIED_REPORTED: &str = "moved, with M lines and the same report";
 
 fn kind(way: &Way, what: &str) -> String {
     format!("{}: {what}", way.name)
@@ -84,11 +86,12 @@ impl Default for Seen {
                 "a result of 65536",
             ];
             kinds.extend(results.map(|what| kind(&way, what)));
-            kinds.extend([1, 2, 3, 4, 5, 6, 8, 9].map(|number| refused(&way, number)));
+            kinds.extend([1, 2, 3, 4, 5, 6, 8, 9, 11].map(|number| refused(&way, number)));
         }
         kinds.push(refused(&TO_FIRST, 10));
-        let others = [LONG_RESULT, JUST_TOO_LONG, LATER_FAULT, BACK, REPORTED];
+        let others = [LONG_RESULT, JUST_TOO_LONG, LATER_FAULT];
         kinds.extend(others.map(String::from));
+        kinds.extend([BACK, REPORTED, TIED, TIED_REPORTED].map(String::from));
         Seen(kinds.into_iter().map(|kind| (kind, 0)).collect())
     }
 }
@@ -192,12 +195,16 @@ fn compare_moved(
     if compare(back, moved, &room)?.as_deref() != Ok(text) {
         return Err(format!("{} of its result: other bytes", back.name));
     }
+    let tied = has_masks(text);
     seen.add(BACK);
+    if tied {
+        seen.add(TIED);
+    }
     if rng.one_in(RUN_ONE_IN) {
         if report(text) != report(moved) {
             return Err("the reports of both forms".to_string());
         }
-        seen.add(REPORTED);
+        seen.add(if tied { TIED_REPORTED } else { REPORTED });
     }
     Ok(())
 }

@@ -7,7 +7,7 @@ use linked::moved::{compare, compare_many, compare_text, Seen, Way, TO_FIRST, TO
 use second::random::{first_form, plan_of_size, with_sizes, Rng};
 use second::text::lines;
 
-const REST: [&str; 4] = ["T a-1 10 r5 w7", "P 0 3", "R 2", "S 9 4"];
+const REST: [&str; 5] = ["T a-1 10 r5 w7", "M 1", "P 0 3", "R 2", "S 9 4"];
 
 fn with_rest(first: &str) -> Vec<u8> {
     lines(&[&[first], &REST[..]].concat())
@@ -69,8 +69,11 @@ fn order_of_refusals() {
     let other = with_rest("W 4 63 8");
     assert_eq!(converted(&TO_FIRST, &other, 0), Err((10, 1)));
     let faulty = [&other[..], b"R\t0\n"].concat();
-    assert_eq!(converted(&TO_FIRST, &faulty, 100), Err((2, 6)));
-    assert_eq!(converted(&TO_SECOND, &faulty, 0), Err((2, 6)));
+    assert_eq!(converted(&TO_FIRST, &faulty, 100), Err((2, 7)));
+    assert_eq!(converted(&TO_SECOND, &faulty, 0), Err((2, 7)));
+    let nobody = b"W\t4\t63\t8\nT\ta\t0\nM\t0\n";
+    assert_eq!(converted(&TO_FIRST, nobody, 0), Err((11, 3)));
+    assert_eq!(converted(&TO_SECOND, nobody, 0), Err((11, 3)));
     assert_eq!(converted(&TO_FIRST, b"W\t4\t3\t7\n", 0), Err((9, 1)));
     let long = sized(65_532);
     assert_eq!(converted(&TO_SECOND, &long, 0), Err((6, 0)));

@@ -6,10 +6,11 @@ use second::plan::Refusal;
 use second::random::{plan_of_size, Rng};
 
 /// Plans with every kind of line, the last one with the longest fields.
-const PLANS: [&str; 3] = [
+const PLANS: [&str; 4] = [
     "W\t2\nT\ta-1\t10\tr5\tw7\nP\t1\t3\nR\t2\nS\t9\t4\n",
     "W\t2\t10\t8\nT\ta-1\t10\tr5\tw7\nP\t1\t3\nR\t2\nS\t9\t4\n",
-    "W\t32\t64\t16\nT\t0123456789abcdef\t1000\tr65535\tw0\tr10\tw11\n\
+    "W\t4\nT\ta-1\t10\tr5\tw7\nM\t10\nT\tb\t0\nT\tc\t1\nM\t3\nP\t1\t3\n",
+    "W\t32\t64\t16\nT\t0123456789abcdef\t1000\tr65535\tw0\tr10\tw11\nM\t4294967295\n\
      S\t18446744073709551615\t1000000\nP\t31\t4096\nR\t1000000\n",
 ];
 
@@ -45,8 +46,10 @@ fn random_and_damaged_texts() {
     match compare_many(20_000, 4) {
         Ok(counts) => {
             let tried = |&number: &usize| counts.refused[number] >= 500;
-            let all = [1, 2, 3, 4, 5, 6, 9].iter().all(tried) && counts.accepted >= 500;
+            let all = [1, 2, 3, 4, 5, 6, 9, 11].iter().all(tried) && counts.accepted >= 500;
             assert!(all, "each answer is tried: {counts:?}");
+            let tied = counts.with_masks >= 500 && counts.in_masks >= 2_000;
+            assert!(tied, "M lines are tried: {counts:?}");
             let (several, before) = (counts.of_several, counts.before_the_last);
             assert!(several >= 5_000 && before >= 5_000, "{counts:?}");
         }
@@ -83,6 +86,11 @@ fn long_fields() {
             ("W\t1\nT\ta\t0\tr", "\n"),
             ("W\t1\nT\ta\t0\tw1\tr", "\tx\n"),
             ("W\t1\nT\t", "\t0\n"),
+            ("W\t1\nT\ta\t0\nM\t", "\n"),
+            ("W\t32\nT\ta\t0\nM\t", "\n"),
+            ("W\t1\nT\ta\t0\nM\t", "\t1\n"),
+            ("W\t1\nT\ta\t0\nM\t", ""),
+            ("W\t1\nM\t", "\n"),
             ("W\t1\nP\t", "\t1\n"),
             ("W\t1\nP\t0\t", "\n"),
             ("W\t1\nR\t", "\n"),
@@ -209,6 +217,22 @@ fn looks_at_refused_texts() {
         ("W\t2\nT\ta\t0\tr1\tr2\tr3\tr4\tr1\nR\t1\n", 4, 2, 25),
         ("W\t2\nT\ta\t0\tr5\tr5\nR\t1\n", 5, 2, 16),
         ("W\t2\nR\t1\nR\t0\nR\t0\nR\t1\n", 2, 3, 12),
+        // M lines: of another form, in another place, out of range, of nobody
+        ("W\t2\nT\ta\t0\nM\nR\t1\n", 1, 3, 12),
+        ("W\t2\nT\ta\t0\nM\t\nR\t1\n", 1, 3, 13),
+        ("W\t2\nT\ta\t0\nM\t1", 1, 3, 13),
+        ("W\t2\nT\ta\t0\nM\t1\t\nR\t1\n", 1, 3, 15),
+        ("W\t2\nT\ta\t0\nM\t4\t1\nR\t1\n", 1, 3, 16),
+        ("W\t2\nT\ta\t0\nM\t00\nR\t1\n", 1, 3, 15),
+        ("W\t2\nT\ta\t0\nM\t-1\nR\t1\n", 1, 3, 15),
+        ("M\t1\nW\t2\n", 3, 1, 4),
+        ("W\t2\nM\t0\nT\ta\t0\n", 3, 2, 8),
+        ("W\t2\nT\ta\t0\nM\t1\nM\t4\nR\t1\n", 3, 4, 18),
+        ("W\t2\nT\ta\t0\nR\t1\nM\t1\nR\t1\n", 3, 4, 18),
+        ("W\t2\nT\ta\t0\nM\t4\nR\t1\n", 2, 3, 14),
+        ("W\t2\nT\ta\t0\nM\t18446744073709551617\nR\t1\n", 2, 3, 33),
+        ("W\t2\nT\ta\t0\nM\t0\nR\t1\n", 11, 3, 14),
+        ("W\t2\nT\ta\t0\nM\t0\nM\t0\n", 11, 3, 14),
     ] {
         refused(text.as_bytes(), number, line, looks);
     }
@@ -227,11 +251,31 @@ fn looks_at_a_long_line() {
         (format!("T\ta\t{digits}{accesses}\n"), 2),
         (format!("T\t{digits}\t0{accesses}\n"), 1),
         (format!("W\t2\t{digits}\t{digits}\n"), 3),
+        (format!("M\t{digits}\n"), 3),
+        (format!("M\t{digits}x\n"), 1),
         (format!("{digits}\t{digits}\n"), 1),
     ] {
         for behind in ["", "R\t1\n", "\n\n", "R\t0\nX"] {
             let text = format!("W\t2\n{line}{behind}");
             refused(text.as_bytes(), number, 2, 4 + line.len() as u64);
+        }
+    }
+}
+
+/// A mask of many digits, behind its T line.
+#[test]
+fn looks_at_a_long_mask() {
+    let digits = "1".repeat(30_000);
+    for (field, number) in [
+        (digits.clone(), 2),
+        (format!("0{digits}"), 1),
+        (format!("{digits}\t{digits}"), 1),
+        (format!("{digits}x"), 1),
+    ] {
+        for behind in ["", "R\t1\n", "M\t1\n", "X"] {
+            let line = format!("M\t{field}\n");
+            let text = format!("W\t32\nT\ta\t0\n{line}{behind}");
+            refused(text.as_bytes(), number, 3, 11 + line.len() as u64);
         }
     }
 }
@@ -262,6 +306,67 @@ fn all_sizes() {
         for slots in 0..=65 {
             for capacity in 0..=17 {
                 same(format!("W\t{workers}\t{slots}\t{capacity}\n").as_bytes());
+            }
+        }
+    }
+}
+
+/// Every mask of up to six workers, and those next to its end; for more workers those
+/// next to both ends.
+#[test]
+fn all_masks() {
+    let with = |workers: u32, mask: u128| {
+        same(format!("W\t{workers}\nT\ta\t0\nM\t{mask}\nT\tb\t0\nR\t1\n").as_bytes());
+    };
+    for workers in 1..=6 {
+        (0..=4 << workers).for_each(|mask| with(workers, mask));
+    }
+    for workers in 7..=32 {
+        let above = 1 << workers;
+        (0..4).for_each(|mask| with(workers, mask));
+        (above - 3..above + 4).for_each(|mask| with(workers, mask));
+        for bit in 0..128 {
+            with(workers, 1 << bit);
+            with(workers, (1 << bit) | 1);
+            with(workers, (1 << bit) - 1);
+        }
+    }
+}
+
+/// Each pair of faults in one M line, in every place that it can have.
+#[test]
+fn two_faults_in_a_mask_line() {
+    for field in [
+        "1",
+        "15",
+        "0",
+        "16",
+        "00",
+        "01",
+        "016",
+        "-",
+        "-1",
+        "",
+        "0x1",
+        "1\t",
+        "0\t0",
+        "16\t1",
+        "18446744073709551617",
+        "18446744073709551616",
+    ] {
+        for before in [
+            "",
+            "W\t4\n",
+            "W\t4\nT\ta\t0\n",
+            "W\t4\nT\ta\t0\nM\t1\n",
+            "W\t4\nT\ta\t0\nM\t1\nT\tb\t0\n",
+            "W\t4\nT\ta\t0\nR\t1\n",
+            "W\t4\nT\ta\t0\nM\t1\nR\t1\n",
+            "W\t4\nP\t0\t1\n",
+            "W\t4\nS\t0\t1\n",
+        ] {
+            for behind in ["\n", "\nT\tc\t0\n", "\nR\t1\n", "\nM\t1\n", "\nR\t0\n", ""] {
+                same(format!("{before}M\t{field}{behind}").as_bytes());
             }
         }
     }
@@ -334,6 +439,8 @@ fn ends_of_ranges() {
             ("W\t9\t9\t", "\n"),
             ("W\t9\nT\ta\t", "\n"),
             ("W\t9\nT\ta\t0\tr", "\n"),
+            ("W\t6\nT\ta\t0\nM\t", "\n"),
+            ("W\t16\nT\ta\t0\nM\t", "\n"),
             ("W\t9\nP\t", "\t1\n"),
             ("W\t32\nP\t8\t", "\n"),
             ("W\t9\nR\t", "\n"),

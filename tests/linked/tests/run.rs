@@ -9,7 +9,7 @@ use second::text::lines;
 
 const STORE: usize = 8_192;
 const LISTING: [&str; 6] = ["W 2", "T a 0", "P 1 3", "P 0 5", "P 1 4", "P 0 2"];
-const LISTING_REPORT: &str = "E finished 14\nT 0 a over 0 13 14 1\nL 66 66 1\n";
+const LISTING_REPORT: &str = "E finished 14 2\nT 0 a over 0 13 14 1\nL 66 66 1\n";
 
 /// Calls with used buffers, compares all, and gives the answer.
 fn compared(
@@ -89,20 +89,26 @@ mod examples {
         assert_eq!(refused(&lines(&["W 4 3 17"])), (2, 1));
         assert_eq!(refused(&lines(&["W 4 4"])), (1, 1));
         assert_eq!(refused(&lines(&["W 4", "W 4 4 8"])), (3, 2));
+        assert_eq!(refused(&lines(&["W 4", "T a 0", "M 0"])), (11, 3));
+        assert_eq!(refused(&lines(&["W 4", "T a 0", "M 16"])), (2, 3));
+        assert_eq!(refused(&lines(&["W 4", "M 0"])), (3, 2));
+        assert_eq!(refused(&lines(&["W 4", "T a 0", "M 1", "M 1"])), (3, 4));
+        assert_eq!(refused(&lines(&["W 4", "T a 0", "R 1", "M 16"])), (3, 4));
+        assert_eq!(refused(&lines(&["W 4", "T a 0", "M 1 1"])), (1, 3));
     }
 
     #[test]
     fn reports() {
-        assert_eq!(shown(&["W 32"]), "E finished 0\nL 64 65 -\n");
-        assert_eq!(shown(&["W 1"]), "E finished 0\nL 64 65 -\n");
-        let new = "E open 0\nT 0 a new - - - -\nL 64 65 -\n";
+        assert_eq!(shown(&["W 32"]), "E finished 0 0\nL 64 65 -\n");
+        assert_eq!(shown(&["W 1"]), "E finished 0 0\nL 64 65 -\n");
+        let new = "E open 0 1\nT 0 a new - - - -\nL 64 65 -\n";
         assert_eq!(shown(&["W 1", "T a 0"]), new);
-        let ten = "E finished 10\nT 0 a over 0 8 10 0\nL 65 66 -\n";
+        let ten = "E finished 10 1\nT 0 a over 0 8 10 0\nL 65 66 -\n";
         assert_eq!(shown(&["W 1", "T a 0", "R 20"]), ten);
         assert_eq!(shown(&LISTING), LISTING_REPORT);
-        let owner = "E open 3\nT 0 a new - - - -\nL 65 65 1\n";
+        let owner = "E open 3 2\nT 0 a new - - - -\nL 65 65 1\n";
         assert_eq!(shown(&["W 2", "T a 0", "P 1 3"]), owner);
-        let left = "E open 7\nT 0 a new - - - -\nL 65 66 -\n";
+        let left = "E open 7 2\nT 0 a new - - - -\nL 65 66 -\n";
         assert_eq!(shown(&["W 2", "T a 0", "P 1 7"]), left);
     }
 
@@ -110,7 +116,7 @@ mod examples {
     /// owns the lock after two picks more.
     #[test]
     fn seeded_pick() {
-        let owner = "E open 3\nT 0 a new - - - -\nL 65 65 2\n";
+        let owner = "E open 3 4\nT 0 a new - - - -\nL 65 65 2\n";
         assert_eq!(shown(&["W 4", "T a 0", "S 0 1", "P 2 2"]), owner);
     }
 
@@ -122,6 +128,132 @@ mod examples {
     }
 }
 
+/// Tasks that not every worker may run.
+mod masks {
+    use super::*;
+    use second::plan;
+    use second::random::{self, with_everybody, without_masks, Rng, Shape};
+
+    /// Worker 1 owns, workers 2, 0 and 3 wait in this order, and worker 3 alone may run
+    /// the task: it is passed on to the owner whose front waiter is worker 3.
+    #[test]
+    fn one_worker() {
+        let plan = [
+            "W 4", "T a 5", "M 8", "P 0 3", "P 1 3", "P 2 2", "P 0 2", "P 3 2", "P 1 6", "P 2 7",
+            "P 0 7", "P 3 10",
+        ];
+        let report = "E finished 39 1\nT 0 a over 3 33 39 0\nL 68 68 0\n";
+        assert_eq!(shown(&plan), report);
+    }
+
+    /// An owner takes the second ready task, a waiter is served with it, and the first
+    /// is still the first.
+    #[test]
+    fn past_the_first() {
+        let tasks = ["W 2", "T a 0", "M 1", "T b 0", "T c 0"];
+        let taken = [&tasks[..], &["P 0 9", "P 1 6"]].concat();
+        let report = "E open 15 5\nT 0 a ready - - - -\nT 1 b run 1 15 - 1\n\
+                      T 2 c ready - - - -\nL 65 65 1\n";
+        assert_eq!(shown(&taken), report);
+        let again = [&taken[..], &["P 1 8"]].concat();
+        let report = "E open 23 5\nT 0 a ready - - - -\nT 1 b over 1 15 17 1\n\
+                      T 2 c run 1 23 - 1\nL 66 66 1\n";
+        assert_eq!(shown(&again), report);
+        let tasks = ["W 3", "T a 0", "M 5", "T b 0", "T c 0"];
+        let orders = ["P 0 9", "P 2 3", "P 1 2", "P 0 2", "P 2 8"];
+        let report = "E open 24 8\nT 0 a held - - - 2\nT 1 b held - - - 2\n\
+                      T 2 c run 2 24 - 2\nL 67 67 2\n";
+        assert_eq!(shown(&[&tasks[..], &orders].concat()), report);
+    }
+
+    /// Serving stops at a front waiter that may run nothing, though the next one may.
+    #[test]
+    fn stops_serving() {
+        let plan = [
+            "W 3", "T a 2", "M 4", "T b 1", "M 6", "P 0 6", "P 2 3", "P 0 2", "P 1 2", "P 2 4",
+        ];
+        let report = "E open 17 3\nT 0 a run 2 17 - 2\nT 1 b ready - - - -\nL 67 65 2\n";
+        assert_eq!(shown(&plan), report);
+    }
+
+    /// With 29 workers in rounds one task for worker 0 alone needs 872 rounds and a pick.
+    #[test]
+    fn twenty_nine() {
+        let report = "E finished 25289 1\nT 0 a over 0 25260 25289 28\nL 120 93 28\n";
+        assert_eq!(shown(&["W 29", "T a 0", "M 1", "R 1000"]), report);
+    }
+
+    /// The most permitted workers, and the fewest, of as many tasks as there may be.
+    #[test]
+    fn totals() {
+        for (mask, total) in [("", 4_096), ("M 4294967295", 4_096), ("M 2147483648", 128)] {
+            let mut plan = vec!["W 32"];
+            for _ in 0..128 {
+                plan.push("T a 0");
+                plan.extend(Some(mask).filter(|mask| !mask.is_empty()));
+            }
+            let report = shown(&plan);
+            assert!(
+                report.starts_with(&format!("E open 0 {total}\n")),
+                "{report}"
+            );
+        }
+    }
+
+    /// Every mask of the tasks of a busy plan, and after every number of picks for some.
+    #[test]
+    fn every_mask() {
+        let tied = |masks: [u64; 3]| {
+            let text = String::from_utf8(busy("W 3")).expect("ASCII");
+            let mut masks = masks.iter().cycle();
+            let lines = text.lines().map(|line| match line.starts_with('T') {
+                true => format!("{line}\nM\t{}\n", masks.next().expect("a mask")),
+                false => format!("{line}\n"),
+            });
+            lines.collect::<String>().into_bytes()
+        };
+        for first in 1..8 {
+            for second in 1..8 {
+                for third in 1..8 {
+                    let text = tied([first, second, third]);
+                    compared(&text, u64::MAX, STORE, 1_000, first).expect("a report");
+                }
+            }
+        }
+        for masks in [[1, 2, 4], [4, 4, 4], [2, 5, 3], [6, 1, 7]] {
+            let text = tied(masks);
+            let all = compared(&text, u64::MAX, STORE, 1_000, 0).expect("a report");
+            for limit in 0..=all.picks + 1 {
+                compared(&text, limit, STORE, 1_000, limit).expect("a report");
+            }
+        }
+    }
+
+    /// M lines of all workers change no byte of a report.
+    #[test]
+    fn all_workers() {
+        let rng = &mut Rng::new(44);
+        for round in 0..600 {
+            let shape = if round % 4 == 0 {
+                Shape::Medium
+            } else {
+                Shape::Small
+            };
+            let text = without_masks(rng, |rng| random::plan(rng, shape));
+            let workers = plan::check(&text).expect("a plan").workers;
+            let tied = with_everybody(&text, workers);
+            let report = |text: &[u8], limit: u64| {
+                let (mut store, mut output) = (used_store(STORE, 1), vec![b'#'; REPORT_SIZE]);
+                let answer = run(text, limit, &mut store, &mut output);
+                (answer.expect("a report"), output)
+            };
+            for limit in [rng.below(100), 20_000] {
+                assert_eq!(report(&text, limit), report(&tied, limit));
+            }
+        }
+    }
+}
+
 /// Plans that name their ring slots and queue capacity.
 mod second_form {
     use super::*;
@@ -129,7 +261,7 @@ mod second_form {
     #[test]
     fn start_values() {
         for slots in 1..=64 {
-            let report = format!("E finished 0\nL {slots} {} -\n", slots + 1);
+            let report = format!("E finished 0 0\nL {slots} {} -\n", slots + 1);
             assert_eq!(shown(&[&format!("W 1 {slots} 1")]), report);
         }
     }
@@ -137,7 +269,7 @@ mod second_form {
     #[test]
     fn listing_in_two_slots() {
         let plan = [&["W 2 2 1"], &LISTING[1..]].concat();
-        let report = "E finished 14\nT 0 a over 0 13 14 1\nL 4 4 1\n";
+        let report = "E finished 14 2\nT 0 a over 0 13 14 1\nL 4 4 1\n";
         assert_eq!(shown(&plan), report);
     }
 
@@ -145,7 +277,7 @@ mod second_form {
     #[test]
     fn registration_of_the_lap_before() {
         let plan = ["W 2 2 8", "T a 0", "P 1 7", "P 0 3", "P 0 3", "P 0 3"];
-        let report = "E open 16\nT 0 a run 0 16 - 0\nL 4 4 0\n";
+        let report = "E open 16 2\nT 0 a run 0 16 - 0\nL 4 4 0\n";
         assert_eq!(shown(&plan), report);
     }
 
@@ -267,6 +399,10 @@ mod buffers {
         assert_eq!(number(b"W\t2\t1\t1\n", STORE - 1, 0), (7, 0));
         assert_eq!(number(b"W\t2\t1\t1\n", STORE, 0), (9, 1));
         assert_eq!(number(b"W\t2\t2\t1\n", STORE, 0), (8, 0));
+        let (nobody, tied) = (b"W\t2\nT\ta\t0\nM\t0\n", b"W\t2\nT\ta\t0\nM\t1\n");
+        assert_eq!(number(nobody, STORE - 1, 0), (7, 0));
+        assert_eq!(number(nobody, STORE, 0), (11, 3));
+        assert_eq!(number(tied, STORE, 0), (8, 0));
     }
 
     /// A store that a run left serves the next one.
@@ -323,6 +459,7 @@ fn refusals_of_the_header() {
         ("OUTPUT_TOO_SHORT", "8"),
         ("TOO_FEW_SLOTS", "9"),
         ("OTHER_SIZES", "10"),
+        ("EMPTY_MASK", "11"),
     ];
     assert_eq!(numbers, expected);
 }
@@ -330,10 +467,19 @@ fn refusals_of_the_header() {
 #[test]
 fn random_calls() {
     match compare_many(10_000, 2_026) {
-        Ok((counts, _)) => assert!(
-            counts.iter().all(|&n| n >= 100),
-            "each answer is met: {counts:?}"
-        ),
+        Ok(counts) => {
+            // 10 is a converter's alone
+            let met = |&number: &usize| counts.answers[number] >= 100;
+            let all = [0, 1, 2, 3, 4, 5, 6, 7, 8, 9, 11].iter().all(met);
+            assert!(all, "each answer is met: {counts:?}");
+            let tied = [
+                counts.with_masks,
+                counts.passed_over,
+                counts.stopped_serving,
+                counts.left_ready,
+            ];
+            assert!(tied.iter().all(|&runs| runs >= 100), "{counts:?}");
+        }
         Err((call, what)) => panic!(
             "{what}: limit {}, store {}, output {}, {:?}",
             call.limit,

@@ -1,7 +1,8 @@
 //! compare COUNT SEED: has the proof checker compute the bench's definitions on COUNT random plans
 //! and holds each whole answer to this implementation's: of a check (acceptance or refusal, looks),
 //! of a run (report or refusal, picks, store, output) and of both converters (length or refusal,
-//! output).
+//! output). Says how many of the plans are accepted with M lines, and in how many runs an owner
+//! serves or takes otherwise because of them.
 
 use second::convert::{to_first, to_second, Converter};
 use second::looks::bounds;
@@ -14,7 +15,7 @@ use std::fmt::Write as _;
 use std::path::{Path, PathBuf};
 use std::process::{exit, Command};
 
-const REFUSALS: [&str; 10] = [
+const REFUSALS: [&str; 11] = [
     "Malformed",
     "OutOfRange",
     "Misplaced",
@@ -25,6 +26,7 @@ const REFUSALS: [&str; 10] = [
     "OutputTooShort",
     "TooFewSlots",
     "OtherSizes",
+    "EmptyMask",
 ];
 const STORE: usize = 8192;
 const IN_STORE: u64 = 7;
@@ -171,6 +173,19 @@ fn theorem(seed: u64) -> String {
     )
 }
 
+/// Whether a plan is accepted with M lines, and whether an owner serves or takes otherwise because
+/// of them.
+fn tied(seed: u64) -> (bool, bool) {
+    let call = draw(seed);
+    let Ok(plan) = check(&call.text) else {
+        return (false, false);
+    };
+    let counters = run::play(&plan, call.limit).counters;
+    let past = counters.served_past + counters.taken_past;
+    let none = counters.stopped_serving + counters.left_ready;
+    (plan.has_masks(), past + none > 0)
+}
+
 fn module(first: u64, count: u64) -> String {
     let mut out = String::from(
         "use mathlib.Core.Path.{_≡_, refl}\nuse mathlib.Core.List.{[], _∷_, _++_}\nuse lib.ListN.{replicate}\n",
@@ -181,7 +196,9 @@ fn module(first: u64, count: u64) -> String {
         REFUSALS.join(", ")
     );
     out.push_str("use Rattle.play.specs.declared.Answer.the-variants.{Reports, Refuses}\nuse Rattle.play.specs.Outcome.{written}\nuse Rattle.bench.specs.Answer.{check, run, played}\nuse Rattle.bench.specs.Computed.{computed}\n");
-    out.push_str("use Rattle.text.specs.LineEnds.{linesSize}\nuse Rattle.reader.specs.Verdict.{told}\n");
+    out.push_str(
+        "use Rattle.text.specs.LineEnds.{linesSize}\nuse Rattle.reader.specs.Verdict.{told}\n",
+    );
     out.push_str("use Rattle.tools.specs.declared.Answer.the-variants as tools\nuse Rattle.tools.specs.Result.{written as converted}\nuse Rattle.convert.specs.Convert.{afterLine, toSecond, toFirst}\n\n");
     for seed in first..first + count {
         out.push_str(&checked(seed));
@@ -251,7 +268,12 @@ fn main() {
         exit(2);
     };
     if done.status.success() {
-        println!("compare: {count} plans from seed {seed}, no difference");
+        let all: Vec<(bool, bool)> = (seed..seed + count).map(tied).collect();
+        println!(
+            "compare: {count} plans from seed {seed}, {} with M lines, which changed {} runs, no difference",
+            all.iter().filter(|(masks, _)| *masks).count(),
+            all.iter().filter(|(_, changed)| *changed).count()
+        );
     } else {
         print!(
             "{}{}",

@@ -3,12 +3,13 @@
 
 use super::draft::{access, is_task, join, line, order_line, Field, Line, OrderSize};
 use super::form::{form, second_form, workers_line};
+use super::masks::{everybody, mask, mask_line};
 use super::{fill, medium, small, Rng};
 use crate::plan::{TASK_LIMIT, TEXT_LIMIT};
 
 /// A damaged text of any size.
 pub fn damaged(rng: &mut Rng) -> Vec<u8> {
-    match rng.below(27) {
+    match rng.below(31) {
         0 => noise(rng),
         1 => Vec::new(),
         2..=4 => sized(rng),
@@ -17,6 +18,12 @@ pub fn damaged(rng: &mut Rng) -> Vec<u8> {
         8..=10 => {
             let mut lines = small(rng);
             workers_faults(rng, &mut lines);
+            join(&lines)
+        }
+        11..=14 => {
+            let mut lines = small(rng);
+            let at = rng.index(lines.len());
+            mask_faults(rng, &mut lines, at, true);
             join(&lines)
         }
         _ => {
@@ -54,23 +61,24 @@ pub fn faults(rng: &mut Rng, lines: &mut Vec<Line>, large: bool) {
 fn fault(rng: &mut Rng, lines: &mut Vec<Line>, at: usize, large: bool) {
     // An earlier fault may have taken a line away.
     let at = at.min(lines.len() - 1);
-    match rng.below(16) {
+    match rng.below(22) {
         0 | 1 => field_form(rng, &mut lines[at]),
         2 if rng.one_in(5) => lines.insert(at, vec![Vec::new()]),
         2 => line_form(rng, &mut lines[at]),
         3 | 4 => range(rng, lines, at),
-        5 | 6 => place(rng, lines, at),
-        7 if large => too_many_tasks(rng, lines),
-        7..=9 => too_many_accesses(rng, lines, at),
-        10 | 11 => address_twice(rng, lines, at),
-        12..=14 => workers_faults(rng, lines),
+        5..=7 => place(rng, lines, at),
+        8 if large => too_many_tasks(rng, lines),
+        8..=11 => too_many_accesses(rng, lines, at),
+        12..=14 => address_twice(rng, lines, at),
+        15..=17 => workers_faults(rng, lines),
+        18..=20 => mask_faults(rng, lines, at, large),
         _ => limit_reached(rng, lines, at),
     }
 }
 
 /// Makes the first line a W line of the second form, mostly, and spoils it, at
 /// times in two ways.
-fn workers_faults(rng: &mut Rng, lines: &mut [Line]) {
+pub fn workers_faults(rng: &mut Rng, lines: &mut [Line]) {
     let workers = workers_of(lines).clamp(1, 32);
     if !rng.one_in(6) {
         lines[0] = workers_line(workers, second_form(rng, workers));
@@ -122,7 +130,7 @@ fn field_form(rng: &mut Rng, line: &mut Line) {
         9 => *field = b"00".to_vec(),
         10 => {
             *field = rng
-                .choose(&[&b"X"[..], b"w", b"t", b"TT", b"E", b"M"])
+                .choose(&[&b"X"[..], b"w", b"t", b"TT", b"E", b"m"])
                 .to_vec()
         }
         11 => {
@@ -176,6 +184,7 @@ fn range(rng: &mut Rng, lines: &mut [Line], at: usize) {
             (3 + rng.index(length - 3), format!("{kind}65536"))
         }
         (b"T", 4..) => (2, "1001".to_string()),
+        (b"M", 2) => (1, (1u128 << workers.min(32)).to_string()),
         (b"P", 3) if rng.one_in(2) => (1, workers.to_string()),
         (b"P", 3) => (2, rng.choose(&["0", "4097"]).to_string()),
         (b"R", 2) => (1, rng.choose(&["0", "1000001"]).to_string()),
@@ -196,6 +205,10 @@ fn limit_reached(rng: &mut Rng, lines: &mut [Line], at: usize) {
             line[3] = rng.choose(&[1, 16]).to_string().into_bytes();
         }
         (b"T", 3..) => line[2] = rng.choose(&[&b"0"[..], b"1000"]).to_vec(),
+        (b"M", 2) => {
+            let all = everybody(workers.clamp(1, 32));
+            *line = mask_line(rng.choose(&[1, all, all - all / 2]));
+        }
         (b"P", 3) => line[1] = (workers.max(1) - 1).to_string().into_bytes(),
         (b"S", 3) => line[1] = u64::MAX.to_string().into_bytes(),
         _ => {}
@@ -211,7 +224,7 @@ fn workers_of(lines: &[Line]) -> u64 {
 
 /// A line where it may not stand.
 fn place(rng: &mut Rng, lines: &mut Vec<Line>, at: usize) {
-    match rng.below(6) {
+    match rng.below(7) {
         0 => {
             lines.remove(0);
             if lines.is_empty() {
@@ -232,6 +245,7 @@ fn place(rng: &mut Rng, lines: &mut Vec<Line>, at: usize) {
             let other = rng.index(lines.len());
             lines.swap(at, other);
         }
+        5 => misplaced_mask(rng, lines),
         _ => {
             let doubled = lines[at].clone();
             lines.insert(at, doubled);
@@ -239,15 +253,92 @@ fn place(rng: &mut Rng, lines: &mut Vec<Line>, at: usize) {
     }
 }
 
+/// Gives a task an M line with a fault of its own or puts one where it may not stand;
+/// at times both, or an M line that is sound. `large` allows a mask of many digits.
+pub fn mask_faults(rng: &mut Rng, lines: &mut Vec<Line>, at: usize, large: bool) {
+    let workers = workers_of(lines).clamp(1, 32);
+    let misplaced = rng.one_in(3);
+    if misplaced {
+        misplaced_mask(rng, lines);
+    }
+    if !misplaced || rng.one_in(4) {
+        let behind = task_at(lines, at) + 1;
+        if lines.get(behind).is_some_and(is_mask) {
+            lines.remove(behind);
+        }
+        let line = match rng.below(12) {
+            0 => mask_line(mask(rng, workers)),
+            _ => faulty_mask(rng, workers, large),
+        };
+        lines.insert(behind, line);
+    }
+}
+
+/// An M line as the first line, behind the W line, an order line or an M line, or
+/// anywhere; it may have a fault of its own too.
+fn misplaced_mask(rng: &mut Rng, lines: &mut Vec<Line>) {
+    let workers = workers_of(lines).clamp(1, 32);
+    let sound = mask_line(mask(rng, workers));
+    let line = match rng.below(3) {
+        0 => faulty_mask(rng, workers, false),
+        _ => sound.clone(),
+    };
+    let at = match rng.below(8) {
+        0 => 0,
+        1 | 2 => 1,
+        3 | 4 => lines.len(),
+        5 | 6 => {
+            let behind = task_at(lines, rng.index(lines.len())) + 1;
+            if !lines.get(behind).is_some_and(is_mask) {
+                lines.insert(behind, sound);
+            }
+            behind + 1
+        }
+        _ => rng.index(lines.len() + 1),
+    };
+    lines.insert(at.min(lines.len()), line);
+}
+
+/// An M line with a fault that it has in any place: no worker, a worker that there is
+/// not, also where fewer bits would not show it, or another form.
+fn faulty_mask(rng: &mut Rng, workers: u64, large: bool) -> Line {
+    let above = 1u128 << workers;
+    let sound = u128::from(mask(rng, workers));
+    let many = if large { 30_000 } else { 21 };
+    let digits = rng.choose(&[10, 20, 40, many, many]);
+    match rng.below(18) {
+        0..=7 => mask_line(0),
+        8 => line(&[&"M", &above]),
+        9 => line(&[&"M", &(above + sound)]),
+        10 => line(&[&"M", &(sound + (1 << rng.choose(&[32, 64, 64])))]),
+        11 => line(&[&"M", &rng.choose(&["1", "4", "9"]).repeat(digits)]),
+        12 => line(&[&"M"]),
+        13 => line(&[&"M", &""]),
+        14 => line(&[&"M", &sound, &rng.choose(&["", "0", "1"])]),
+        15 => line(&[&"M", &format!("0{}", rng.choose(&[0, sound]))]),
+        16 => line(&[&"M", &format!("-{}", rng.choose(&[0, sound]))]),
+        _ => line(&[&"M", &format!("0x{sound:x}")]),
+    }
+}
+
+fn is_mask(line: &Line) -> bool {
+    line.first().is_some_and(|field| field == b"M")
+}
+
 /// The task line at or after `at`, else any; one is put in where there is none.
 fn task_line(lines: &mut Vec<Line>, at: usize) -> &mut Line {
+    let index = task_at(lines, at);
+    &mut lines[index]
+}
+
+/// Where that line is.
+fn task_at(lines: &mut Vec<Line>, at: usize) -> usize {
     let found = (at..lines.len()).chain(0..at).find(|&i| is_task(&lines[i]));
-    let index = found.unwrap_or_else(|| {
+    found.unwrap_or_else(|| {
         let second = lines.len().min(1);
         lines.insert(second, line(&[&"T", &"in", &0]));
         second
-    });
-    &mut lines[index]
+    })
 }
 
 fn too_many_tasks(rng: &mut Rng, lines: &mut Vec<Line>) {
@@ -367,7 +458,7 @@ fn remove_one(rng: &mut Rng, text: &mut Vec<u8>, byte: u8) {
 
 /// Random bytes, from all 256 or from those that plans are made of.
 fn noise(rng: &mut Rng) -> Vec<u8> {
-    const USUAL: &[u8] = b"WTPRS\t\n\t\n0123rw5-a";
+    const USUAL: &[u8] = b"WTMPRS\t\n\t\n0123rw5-a";
     let all = rng.one_in(2);
     let length = rng.between(1, 60);
     (0..length)

@@ -1,8 +1,9 @@
 //! Small texts that a slow interpreter can compute too.
 
-use super::damage::{damage_bytes, faults};
+use super::damage::{damage_bytes, faults, mask_faults, workers_faults};
 use super::draft::{join, line, seed, Line, Pattern, Tasks};
 use super::form::{form, workers_line};
+use super::masks::tied;
 use super::Rng;
 use crate::plan::check;
 
@@ -12,15 +13,22 @@ const PICKS: u64 = 300;
 const WORKERS: u64 = 6;
 const TASKS: usize = 20;
 const COST: u64 = 3;
+/// Of nine samples so many have M lines: few can be computed, and they should show much.
+const TIED: u64 = 7;
 
-/// The sample of a seed; about one in five is damaged.
+/// The sample of a seed; about one in four is damaged.
 pub fn sample(seed: u64) -> Vec<u8> {
     let rng = &mut Rng::new(seed);
-    let spoil = rng.one_in(5);
+    let spoil = rng.one_in(4);
     loop {
         let mut lines = sound(rng);
-        if spoil && !rng.one_in(8) {
-            faults(rng, &mut lines, false);
+        if spoil {
+            match rng.below(10) {
+                0 => {}
+                1 => workers_faults(rng, &mut lines),
+                2 | 3 => mask_faults(rng, &mut lines, 0, false),
+                _ => faults(rng, &mut lines, false),
+            }
         }
         let mut text = join(&lines);
         if spoil && rng.one_in(8) {
@@ -79,7 +87,8 @@ fn sound(rng: &mut Rng) -> Vec<Line> {
         max_label: 3,
     };
     let mut lines = vec![workers_line(workers, form)];
-    lines.extend(tasks.lines(rng));
+    let tasks = tasks.lines(rng);
+    lines.extend(tied(rng, TIED, workers, tasks));
     lines.extend(orders(rng, workers, (kind < 3).then_some(capacity)));
     lines
 }

@@ -19,6 +19,9 @@ judge-task-requires c κs = search needs
 enum-told-4 : tie.Need-enum-told-4
 enum-told-4 c = search needs
 
+enum-told-5 : tie.Need-enum-told-5
+enum-told-5 c = search needs
+
 returns : tie.Need-returns
 returns c = search needs
 
@@ -31,6 +34,9 @@ returns-3 c = c .judge-task .ensures ∙ rw (c .before .enum-told3 .given .1)
 returns-4 : tie.Need-returns-4
 returns-4 c = search needs
 
+returns-5 : tie.Need-returns-5
+returns-5 c = search needs
+
 pub judge-spec : {M : Type 1} → statement M
 judge-spec =
     tie.close
@@ -40,7 +46,9 @@ judge-spec =
     enum-told-3
     judge-task-requires
     enum-told-4
+    enum-told-5
     returns
     returns-2
     returns-3
-    returns-4)
+    returns-4
+    returns-5)

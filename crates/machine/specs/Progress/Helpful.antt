@@ -1,22 +1,25 @@
 -- Who brings the next progress: a worker of which it is known how many picks of its own are missing, whatever the others do meanwhile.
-use Prim.Native.Nat.{ℕ, suc, _+_, _-_, _≤_, _<_}
+use Prim.Native.Nat.{ℕ, suc, _+_, _*_, _-_, _≤_, _<_}
 use native.Mathlib.Omega.{arith}
+use native.Mathlib.Nat.{suc-mul, mul-le-mul-right}
 use mathlib.Core.Path.{_≡_, refl, sym, ap, _∙_}
-use mathlib.Core.Logic.{_⊎_, inl, inr, ⊎-elim}
+use mathlib.Core.Logic.{_⊎_, inl, inr, ⊎-elim, _≢_}
 use mathlib.Core.Bool.{true}
 use mathlib.Core.List.{List, []}
 use lib.ListN.{length}
-use Rattle.runs.specs.Update.{clash}
+use Rattle.runs.specs.Update.{same, order, clash}
+use Rattle.runs.specs.Counts.{count}
 use Rattle.lock.specs.Lock as L
 use Rattle.lock.specs.History as H
 use Rattle.lock.specs.Promise as Promise
 use Rattle.tasks.specs.Tasks as T
 use Rattle.tasks.specs.Tasks.{Message, Creation, opening, linking}
 use Rattle.machine.specs.State.{Setup, forServing, forAdding, Place, idle, trying, registering, looking, draining, serving, handing, leaving, State}
+use Rattle.machine.specs.Event.{may}
 use Rattle.machine.specs.Whereabouts.{lockStand}
-use Rattle.machine.specs.Safety.Locked.{Locked}
-use Rattle.machine.specs.Progress.Leading.{standing, Leads}
-use Rattle.machine.specs.Progress.Waiting.{toHandOver}
+use Rattle.machine.specs.Safety.Locked.{Locked, waits-at}
+use Rattle.machine.specs.Progress.Leading.{standing, Leads, leader-of}
+use Rattle.machine.specs.Progress.Waiting.{toHandOver, perHandOver, to-hand-over-le}
 use Rattle.machine.specs.Progress.Creating.{Soon}
 
 -- ---- places
@@ -98,14 +101,27 @@ module _ (c : Setup) where
   abbrev pub Eager : (ℕ → List ℕ) → (ℕ → List Message) → (ℕ → List ℕ) → Creation → ℕ → Type 0
   Eager queue mail adds creation v = NoneIn queue × ((0 < length (mail v)) ⊎ (0 < length (adds v)) ⊎ ((v ≡ 0) × Uncreated c creation))
 
-  module _ (queue : ℕ → List ℕ) (list : List ℕ) (adds : ℕ → List ℕ) where
-    -- an owner has something to do: a task in a queue, or in the ready list while none is to be added
-    abbrev pub Ahead : Type 0
-    Ahead = ((j : ℕ) × (j < c .workers) × (0 < length (queue j))) ⊎ ((0 < length list) × NoneIn adds)
+  -- worker v may run a task of the list
+  abbrev pub MayRun : List ℕ → ℕ → Type 0
+  MayRun list v = (i : ℕ) × (0 < count i list) × (may c v i ≡ true)
 
-    -- a leader at this place comes to it in this session
-    abbrev pub Sure : Place → Type 0
-    Sure p = ((j : ℕ) × (j < c .workers) × (0 < length (queue j)) × FindsQueue j p) ⊎ ((0 < length list) × NoneIn adds × FindsList p)
+  module _ (queue : ℕ → List ℕ) (list : List ℕ) where
+    -- whoever owns has something to do: a task in a queue, or in the ready list while none is to be added
+    abbrev pub Ahead : (ℕ → List ℕ) → Type 0
+    Ahead adds =
+        ((j : ℕ) × (j < c .workers) × (0 < length (queue j))) ⊎ (((v : ℕ) → v < c .workers → MayRun list v) × NoneIn adds)
+
+    -- leader v, at this place, comes to something to do in this session
+    abbrev pub Sure : ℕ → Place → Type 0
+    Sure v p = ((j : ℕ) × (j < c .workers) × (0 < length (queue j)) × FindsQueue j p) ⊎ (MayRun list v × FindsList p)
+
+-- the picks of leaders up to the turn of any ticket
+abbrev pub toTurn : ℕ → ℕ
+toTurn W = W * perHandOver W
+
+-- the picks of leaders, and of the worker with ticket t itself, until that one has found a task, where the leader stands at p
+abbrev pub toFind : ℕ → ℕ → ℕ → Place → ℕ
+toFind W t tail p = (t - tail) * perHandOver W + toHandOver W p + (W + 5)
 
 -- worker v has at most r + 1 picks of its own up to progress
 pub data Helpful (c : Setup) (s : State) (r v : ℕ) : Type 0 where
@@ -115,11 +131,15 @@ pub data Helpful (c : Setup) (s : State) (r v : ℕ) : Type 0 where
   eager : Eager c (s .queue) (s .tasks .mail) (s .tasks .adds) (s .tasks .creation) v → Soon (s .place v)
       → toIdle (c .workers) (s .place v) ≤ r → Helpful c s r v
   -- a leader that can't miss what is ahead, one that may have missed it in this session, and a worker near a free lock
-  leads-to : Leads s v → Sure c (s .queue) (s .readyList) (s .tasks .adds) (s .place v) → toHandOver (c .workers) (s .place v) ≤ r
-      → Helpful c s r v
+  leads-to : Leads s v → Sure c (s .queue) (s .readyList) v (s .place v) → toHandOver (c .workers) (s .place v) ≤ r → Helpful c s r v
   leads-past : Leads s v → Ahead c (s .queue) (s .readyList) (s .tasks .adds) → toHandOver (c .workers) (s .place v) + (c .workers + 6) ≤ r
       → Helpful c s r v
   near : L.isFree (s .lock) ≡ true → Ahead c (s .queue) (s .readyList) (s .tasks .adds) → Near (c .workers) r (s .place v) → Helpful c s r v
+  -- a worker that may run a task of the ready list is on its way to a ticket; and a leader, while such a worker waits for its turn
+  seeks : MayRun c (s .readyList) v → s .tasks .adds v ≡ [] → Soon (s .place v)
+      → toIdle (c .workers) (s .place v) + (toTurn (c .workers) + (c .workers + 5)) ≤ r → Helpful c s r v
+  leads-before : (u t : ℕ) → MayRun c (s .readyList) u → H.Holds (standing s u) t → s .lock .tail ≤ t → Leads s v
+      → toFind (c .workers) t (s .lock .tail) (s .place v) ≤ r → Helpful c s r v
 
 -- ---- where nobody owns
 
@@ -145,7 +165,52 @@ module _ (c : Setup) (s : State) (i : Locked c (s .lock) (s .place)) where
       → Helpful c s r v
   called-helps a v r (t, h, k, n) l =
       let (q, f, b) = begins (c .workers) (s .place v) t h in
-      leads-to (inr (t, h, k, n)) (⊎-elim (λ (j, y, z). inl (j, y, z, q j)) (λ (y, z). inr (y, z, f)) a) (omega arith)
+      leads-to (inr (t, h, k, n)) (⊎-elim (λ (j, y, z). inl (j, y, z, q j)) (λ (y, z). inr (y v (Promise.holder-below i v t h), f)) a)
+      (omega arith)
+
+  -- ---- a worker with a ticket that may run a task of the ready list
+
+  module _ (u t : ℕ) (m : MayRun c (s .readyList) u) (h : H.Holds (standing s u) t) where
+    -- its turn has come: it finds a task in its cell, or it leads
+    pub due-helps : (r : ℕ) → t < s .lock .tail → c .workers + 4 ≤ r → Helpful c s r u
+    due-helps r l b = go (Promise.leader i)
+      where
+        finds : (standing s u ≡ H.waiting t) × (s .lock .cellTicket u ≡ t) → Helpful c s r u
+        finds (p, q) = let at = waits-at (s .place u) t p in prompt (rw at (l, q))
+
+        go : Promise.Leader (c .workers) (s .lock) (standing s) → Helpful c s r u
+        go (Promise.nobody f) = let (p, y, q) = (Promise.free-lock i f) .1 u t h in finds (p, q)
+        go (Promise.called w d k) =
+            ⊎-elim
+            (λ (e : u ≡ w).
+            let (q, f, o) = begins (c .workers) (s .place u) t h in
+            leads-to (inr (rw (← e) at k)) (inr (m, f)) (omega arith))
+            (λ (n : u ≢ w). finds ((Promise.called-lock i w k) .2 u n t h l)) (same u w)
+        go (Promise.owner w d o) = finds ((Promise.owned-lock i w o) .1 u t h l)
+
+    -- it has not come: somebody leads
+    before-helps : (r : ℕ) → s .lock .tail ≤ t → toTurn (c .workers) + (c .workers + 4) ≤ r → (v : ℕ) × (v < c .workers) × Helpful c s r v
+    before-helps r l b =
+        let (v, hv, k) = leader-of c s i u t h l in
+        let W = c .workers in
+        let d = t - s .lock .tail in
+        let few : suc (suc d) ≤ W = omega (arith, Promise.ends-near i, Promise.ticket-given i u t h) in (
+          v,
+          hv,
+          leads-before u t m h l k
+              (omega (
+                arith,
+                mul-le-mul-right (perHandOver W) few,
+                suc-mul (suc d) (perHandOver W),
+                suc-mul d (perHandOver W),
+                to-hand-over-le W (s .place v) (omega arith),
+              )),
+        )
+
+    pub holder-helps : (r : ℕ) → toTurn (c .workers) + (c .workers + 4) ≤ r → (v : ℕ) × (v < c .workers) × Helpful c s r v
+    holder-helps r b =
+        ⊎-elim (λ (l : t < s .lock .tail). (u, Promise.holder-below i u t h, due-helps r l (omega arith)))
+        (λ (l : s .lock .tail ≤ t). before-helps r l b) (order t (s .lock .tail))
 
   module _ (free : L.isFree (s .lock) ≡ true) where
     pub free-tail : s .lock .tail ≡ suc (s .lock .head)

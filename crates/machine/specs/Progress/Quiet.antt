@@ -4,7 +4,7 @@ use native.Mathlib.Omega.{arith}
 use mathlib.Core.Path.{_≡_, refl, sym, ap, _∙_}
 use mathlib.Core.Logic.{_⊎_, inl, inr, _≢_}
 use mathlib.Core.Bool.{true, false}
-use mathlib.Core.List.{List, [], _∷_, _++_, append-nil}
+use mathlib.Core.List.{List, [], _∷_, _++_}
 use lib.ListN.{length, length-append}
 use Rattle.runs.specs.Update.{upd, upd-id}
 use Rattle.runs.specs.Sums.{sum, sum-upd, sum-const}
@@ -16,7 +16,8 @@ use Rattle.tasks.specs.Playing.{by}
 use Rattle.tasks.specs.Promise as Tasks
 use Rattle.tasks.specs.Promise.{workLeft, toGive, totalCost, total}
 use Rattle.machine.specs.State.{Setup, Purpose, trying, registering, looking, draining, serving, handing, leaving, State, start}
-use Rattle.machine.specs.Event.{Event, minds, pushes, findsFull, triesAndOwns, triesInVain, takesTicket, registers, waits, receives, owns, drains, fills, takes, takesNone, handsOver, leaves, handedBy}
+use Rattle.machine.specs.Event.{Event, minds, pushes, findsFull, triesAndOwns, triesInVain, takesTicket, registers, waits, receives, owns, drains, fills, takes, takesNone, handsOver, leaves, may, handedBy}
+use Rattle.machine.specs.Ready.{nothing, choose, arrive-none}
 use Rattle.machine.specs.Step.{apply, lockOp, taskOp}
 use Rattle.machine.specs.Trace.{byLock}
 use Rattle.machine.specs.View.{AtRest, AllCreated, Does, does-mind, does-push, does-find-full, does-win, does-fail, does-take-ticket, does-register, does-wait, does-receive, does-own, does-drain, does-fill, does-take, does-take-none, does-hand-over, does-leave}
@@ -99,7 +100,7 @@ pub data Quiet (c : Setup) (s : State) (w : ℕ) : Event → Type 0 where
   quiet-wait : (t : ℕ) → s .place w ≡ looking t → L.look (c .slots) (s .lock) t w ≡ L.notYet → Quiet c s w waits
   quiet-own : (t : ℕ) → s .place w ≡ looking t → L.look (c .slots) (s .lock) t w ≡ L.owns → Quiet c s w (owns t)
   quiet-drain : (p : Purpose) (k : ℕ) → s .place w ≡ draining p k → s .queue k ≡ [] → Quiet c s w (drains p k)
-  quiet-none : (n : ℕ) → s .place w ≡ serving n → s .readyList ≡ [] → Quiet c s w takesNone
+  quiet-none : (n : ℕ) → s .place w ≡ serving n → choose (may c w) (s .readyList) ≡ nothing → Quiet c s w takesNone
   quiet-hand : (n : ℕ) → s .place w ≡ handing n → Quiet c s w (handsOver n (handedBy c s w))
   quiet-leave : s .place w ≡ leaving → Quiet c s w (leaves (handedBy c s w))
 
@@ -152,7 +153,7 @@ module _ (c : Setup) (s : State) (w : ℕ) where
         tasks = refl;
         stand = refl;
         queue = ap (upd (s .queue) k) (sym q) ∙ upd-id (s .queue) k;
-        readyList = rw q (append-nil (s .readyList));
+        readyList = rw q (arrive-none (s .readyList));
         cells = refl;
       }
   unmoved (quiet-none n p q) = record { tasks = refl; stand = refl; queue = refl; readyList = refl; cells = refl }

@@ -4,6 +4,7 @@ use Prim.Native.Nat.{ℕ}
 use mathlib.Core.Path.{_≡_, refl}
 use mathlib.Core.Bool.{Bool, true, false}
 use mathlib.Core.List.{List, [], _∷_, _++_}
+use mathlib.Core.Option.{none}
 use lib.ListN.{replicate, take}
 use lib.Dec.{eqb}
 use Rattle.runs.specs.Sums.{sum}
@@ -17,7 +18,8 @@ use Rattle.machine.specs.Computing.{computing}
 
 -- one task with this cost and no access
 abbrev pub one : ℕ → ℕ → Setup
-one workers cost = record { workers = workers; slots = 64; capacity = 8; tasks = record { label = []; cost = cost; accesses = [] } ∷ [] }
+one workers cost =
+    record { workers = workers; slots = 64; capacity = 8; tasks = record { label = []; cost = cost; accesses = []; mask = none } ∷ [] }
 
 abbrev pub waitsWith : ℕ → LH.Stand → Bool
 waitsWith t LH.out = false

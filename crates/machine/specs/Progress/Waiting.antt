@@ -45,7 +45,7 @@ toHandOver W leaving = 1
 abbrev pub perHandOver : ℕ → ℕ
 perHandOver W = 3 * W + 2
 
-to-hand-over-le : (W : ℕ) (p : Place) → 0 < W → toHandOver W p ≤ perHandOver W
+pub to-hand-over-le : (W : ℕ) (p : Place) → 0 < W → toHandOver W p ≤ perHandOver W
 to-hand-over-le W idle h = omega arith
 to-hand-over-le W trying h = omega arith
 to-hand-over-le W (registering t) h = omega arith

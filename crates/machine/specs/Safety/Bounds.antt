@@ -1,9 +1,9 @@
 -- What the layout in memory rests on: how long the lists of a state get, and which numbers stand in them.
 use Prim.Native.Nat.{ℕ, suc, _+_, _≤_, _<_}
 use native.Mathlib.Omega.{arith}
-use mathlib.Core.Path.{_≡_}
-use mathlib.Core.List.{List, [], _∷_}
+use mathlib.Core.List.{[], _∷_}
 use lib.ListN.{length, length-append}
+use Rattle.runs.specs.Counts.{count}
 use Rattle.runs.specs.Update.{upd-all}
 use Rattle.lock.specs.Promise as Lock
 use Rattle.tasks.specs.Accesses.{taskAt}
@@ -14,7 +14,7 @@ use Rattle.machine.specs.Event.{Event, event}
 use Rattle.machine.specs.Step.{taskOp, apply, step}
 use Rattle.machine.specs.View as view
 use Rattle.machine.specs.View.{Does, does-step}
-use Rattle.machine.specs.Safety.Device.{first-given}
+use Rattle.machine.specs.Safety.Device.{listed-given}
 use Rattle.machine.specs.Safety.Invariant.{Playable, Inv, may-do, inv-picked}
 use Rattle.machine.specs.Safety.Traces.{step-picks}
 use Rattle.machine.specs.Safety.Ends.{head-step}
@@ -64,8 +64,8 @@ module _ (c : Setup) (playable : Playable c) (s : State) (v : Inv c s) where
   pub ready-length : length (s .readyList) ≤ length (c .tasks)
   ready-length = Promise.given-room (v .tasked) (s .readyList) (λ i. omega (arith, v .device .stored i))
 
-  pub ready-below : (i : ℕ) (is : List ℕ) → s .readyList ≡ i ∷ is → i < length (c .tasks)
-  ready-below i is e = Promise.given-below (v .tasked) i (omega (arith, first-given c s (v .device) (v .tasked) i is e))
+  pub ready-below : (i : ℕ) → 0 < count i (s .readyList) → i < length (c .tasks)
+  ready-below i l = Promise.given-below (v .tasked) i (omega (arith, listed-given c s (v .device) (v .tasked) i l))
 
 -- the head is below the slots and the picks taken
 abbrev pub Small : Setup → State → Type 0

@@ -5,13 +5,13 @@ use native.Mathlib.Omega.{arith}
 use mathlib.Core.Path.{_≡_, refl, ap, _∙_}
 use mathlib.Core.Logic.{_⊎_, inl, inr, ⊎-elim, _≢_}
 use mathlib.Core.Bool.{false}
-use mathlib.Core.List.{List, [], _∷_}
+use mathlib.Core.List.{List, []}
 use lib.ListN.{length}
 use lib.Dec.{eqb}
 use borrow.Author.Tests.{eq-eqb, ne-eqb}
 use Rattle.runs.specs.Update.{same}
 use Rattle.runs.specs.Sums.{sum-const, le-sum, two-sum, pos-sum}
-use Rattle.runs.specs.Counts.{one-le, is, is-same, is-other, count, count-nil, count-cons}
+use Rattle.runs.specs.Counts.{one-le, is, is-same, is-other, count, count-nil}
 use Rattle.lock.specs.History as LH
 use Rattle.tasks.specs.Tasks as T
 use Rattle.tasks.specs.Tasks.{Message, held, stage, isHeld, given}
@@ -91,8 +91,8 @@ device-start c =
 
 module _ (c : Setup) (s : State) (h : Device c s) where
   -- a task in the ready list was given to the device
-  pub first-given : Tasked c (s .tasks) (s .stand) → (j : ℕ) (js : List ℕ) → s .readyList ≡ j ∷ js → given (c .workers) (s .tasks) j ≡ 1
-  first-given v j js e = omega (arith, h .stored j, ap (count j) e ∙ count-cons j j js, is-same j j refl, Promise.given-le v j)
+  pub listed-given : Tasked c (s .tasks) (s .stand) → (j : ℕ) → 0 < count j (s .readyList) → given (c .workers) (s .tasks) j ≡ 1
+  listed-given v j l = omega (arith, h .stored j, Promise.given-le v j)
 
   -- a task in the cell of a worker that waits with the ticket beside it counts there
   counts-at : (w t j : ℕ) → s .place w ≡ looking t → s .lock .cellTicket w ≡ t → s .lock .cellTask w ≡ j

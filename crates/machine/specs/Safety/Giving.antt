@@ -7,7 +7,7 @@ use mathlib.Core.List.{List, [], _∷_, _++_, append-nil, append-assoc}
 use mathlib.Core.Option.{Option, none, some}
 use lib.ListN.{length, getElem?}
 use Rattle.runs.specs.Update.{same, upd, upd-same, upd-other, clash}
-use Rattle.runs.specs.Counts.{is-same, is-other}
+use Rattle.runs.specs.Counts.{is-same, is-other, count}
 use Rattle.runs.specs.Picks.{Picks}
 use Rattle.runs.specs.Traces as Traces
 use Rattle.lock.specs.Lock as L
@@ -20,6 +20,7 @@ use Rattle.tasks.specs.Playing as P
 use Rattle.tasks.specs.Promise as Promise
 use Rattle.machine.specs.State.{Setup, Place, looking, serving, State, start, picked}
 use Rattle.machine.specs.Event.{Handed, Event, receives, fills, takes, handedBy, event}
+use Rattle.machine.specs.Ready.{chosen-listed}
 use Rattle.machine.specs.Step.{lockOp, taskOp, effect, giverAfter, lockAfter, apply, step, finished, after}
 use Rattle.machine.specs.Trace.{Happening, trace, tally, isReceipt, isHandOver, isTaking, isHanding, handedWith}
 use Rattle.machine.specs.View as view
@@ -27,7 +28,7 @@ use Rattle.machine.specs.View.{Does, does-step}
 use Rattle.machine.specs.Whereabouts.{lockStand}
 use Rattle.machine.specs.Safety.Locked.{lockStands, LockMove, aside, operates, lock-move, moved-stands, waits-at}
 use Rattle.machine.specs.Safety.Ends.{tail-apply, tail-kept, tail-raised}
-use Rattle.machine.specs.Safety.Device.{first-given, celled, celled-once}
+use Rattle.machine.specs.Safety.Device.{listed-given, celled, celled-once}
 use Rattle.machine.specs.Safety.Tasked.{tasked-keep}
 use Rattle.machine.specs.Safety.Handed.{Fronts, handed-is, handed-if}
 use Rattle.machine.specs.Safety.Traces.{more, tally-more, length-more, at-more, at-last}
@@ -250,15 +251,15 @@ module _ (c : Setup) (i : ℕ) (s : State) (inv : Inv c s) (w : ℕ) (hw : w < c
               );
         }
 
-    -- nobody has given the first task of the ready list
-    first-ungiven : (js : List ℕ) → s .readyList ≡ i ∷ js → GaveAt c i s hs → Ungiven i (s .giver i) hs
-    first-ungiven js q =
+    -- nobody has given a task of the ready list
+    listed-ungiven : 0 < count i (s .readyList) → GaveAt c i s hs → Ungiven i (s .giver i) hs
+    listed-ungiven l =
         let is-ready : s .tasks .status i ≡ ready =
-        Promise.given-ready (c .workers) (s .tasks) i (first-given c s (inv .device) (inv .tasked) i js q) in
+        Promise.given-ready (c .workers) (s .tasks) i (listed-given c s (inv .device) (inv .tasked) i l) in
         ungiven-early c i s inv (omega (arith, ap stage is-ready))
 
     -- it is put into the cell of the front waiter
-    filled : (n v : ℕ) (js : List ℕ) → Does c s w (fills n v i js) → s .place w ≡ serving n → s .readyList ≡ i ∷ js
+    filled : (n v : ℕ) (js : List ℕ) → Does c s w (fills n v i js) → s .place w ≡ serving n → 0 < count i (s .readyList)
         → L.front (c .slots) (s .lock) ≡ some v
         → GaveAt c i s hs → GaveAt c i (apply c s w (fills n v i js)) (more hs w (fills n v i js))
     filled n v js d p q f g =
@@ -267,13 +268,13 @@ module _ (c : Setup) (i : ℕ) (s : State) (inv : Inv c s) (w : ℕ) (hw : w < c
         (rw (tail-kept c s w (fills n v i js) refl)
         (subst (λ (st : ℕ → LH.Stand). LH.InCell (LH.after (c .slots) (s .lock) w (LH.fill v i)) st v (s .lock .tail) i)
         (sym (moved-stands c s w (lock-move c s w d))) inside))
-        (ungiven-more i w (fills n v i js) refl refl (first-ungiven js q g))
+        (ungiven-more i w (fills n v i js) refl refl (listed-ungiven q g))
 
     -- it is taken
-    took : (js : List ℕ) → Does c s w (takes i js) → s .readyList ≡ i ∷ js
+    took : (js : List ℕ) → Does c s w (takes i js) → 0 < count i (s .readyList)
         → GaveAt c i s hs → GaveAt c i (apply c s w (takes i js)) (more hs w (takes i js))
     took js d q g =
-        let u = first-ungiven js q g in
+        let u = listed-ungiven q g in
         taken w (length hs) (received-now d (taskAt (c .tasks) i .cost) (upd-same (s .stand) w _) (is-same i i refl))
         (record {
           giver = upd-same (s .giver) i (some w);
@@ -376,13 +377,13 @@ module _ (c : Setup) (i : ℕ) (s : State) (inv : Inv c s) (w : ℕ) (hw : w < c
     gave-keep (view.does-drain u k p) = keeps (view.does-drain u k p) refl (λ t z. clash (cc)) refl (λ v b f. refl)
     gave-keep (view.does-fill n u j js p q f l) =
         ⊎-elim
-        (λ (e : j ≡ i). rw e (filled n u js (view.does-fill n u i js p (rw e at q) f l) p (rw e at q) f))
+        (λ (e : j ≡ i). rw e (filled n u js (view.does-fill n u i js p (rw e at q) f l) p (chosen-listed (rw e at q)) f))
         (λ (x : j ≢ i).
         keeps (view.does-fill n u j js p q f l) (omega (arith, is-other j i x)) (λ t z. clash (cc)) refl (λ v b f. refl))
         (same j i)
     gave-keep (view.does-take n j js p q) =
         ⊎-elim
-        (λ (e : j ≡ i). rw e (took js (view.does-take n i js p (rw e at q)) (rw e at q)))
+        (λ (e : j ≡ i). rw e (took js (view.does-take n i js p (rw e at q)) (chosen-listed (rw e at q))))
         (λ (x : j ≢ i).
         keeps (view.does-take n j js p q) (omega (arith, is-other j i x)) (λ t z. clash (cc))
         (upd-other (s .giver) j (some w) i (λ z. x (sym z))) (λ v b f. refl))

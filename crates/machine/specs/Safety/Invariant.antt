@@ -1,12 +1,15 @@
 -- All that holds of every state that picks lead to: the lock's promise, the tasks' promise, and what the device keeps.
 use Prim.Native.Nat.{ℕ, _≤_, _<_}
+use mathlib.Core.Path.{_≡_}
+use mathlib.Core.Bool.{true}
 use mathlib.Core.List.{List}
+use lib.ListN.{length}
 use Rattle.runs.specs.Picks.{Picks, run}
 use Rattle.tasks.specs.Accesses.{Distinct}
 use Rattle.tasks.specs.Playing as P
 use Rattle.tasks.specs.Promise as Promise
 use Rattle.machine.specs.State.{Setup, State, start, picked}
-use Rattle.machine.specs.Event.{Event}
+use Rattle.machine.specs.Event.{Event, may}
 use Rattle.machine.specs.Step.{taskOp, apply, step, pick, after}
 use Rattle.machine.specs.View.{Does, does-step}
 use Rattle.machine.specs.Safety.Locked.{Locked, locked-start, locked-keep}
@@ -14,12 +17,14 @@ use Rattle.machine.specs.Safety.Device.{Tasked, Device, device-start}
 use Rattle.machine.specs.Safety.Tasked.{task-may, tasked-keep, device-keep}
 use Rattle.machine.specs.Safety.Traces.{run-inv}
 
--- what a run may be played with: a ring with a slot for each worker, queues with room for a task, no address twice in a task
+-- what a run may be played with: a ring with a slot for each worker, queues with room for a task, no address twice in a task, and for each
+-- task a worker that may run it
 pub record Playable (c : Setup) : Type 0 where
   pub workers : 0 < c .workers
   pub ring : c .workers ≤ c .slots
   pub room : 0 < c .capacity
   pub distinct : Distinct (c .tasks)
+  pub runnable : (i : ℕ) → i < length (c .tasks) → (w : ℕ) × (w < c .workers) × (may c w i ≡ true)
 
 pub record Inv (c : Setup) (s : State) : Type 0 where
   pub locked : Locked c (s .lock) (s .place)

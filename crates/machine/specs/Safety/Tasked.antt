@@ -23,6 +23,7 @@ use Rattle.tasks.specs.Playing.{by, hasNotice}
 use Rattle.tasks.specs.Promise as Promise
 use Rattle.machine.specs.State.{Setup, Purpose, forServing, forAdding, Place, idle, trying, registering, looking, draining, serving, handing, leaving, State}
 use Rattle.machine.specs.Event.{Event, triesAndOwns, takesTicket, registers, receives, owns, handsOver, leaves, fills, handedBy}
+use Rattle.machine.specs.Ready.{chosen-listed, chosen-count, arrive-count}
 use Rattle.machine.specs.Step.{apply, lockOp, taskOp, effect, afterDraining, nextDrain}
 use Rattle.machine.specs.Trace.{byLock}
 use Rattle.machine.specs.View as view
@@ -30,7 +31,7 @@ use Rattle.machine.specs.View.{Does}
 use Rattle.machine.specs.Whereabouts.{lockStand, inCell, stored, boxes}
 use Rattle.machine.specs.Safety.Locked.{Locked, waits-at}
 use Rattle.machine.specs.Safety.Ends.{cells-kept}
-use Rattle.machine.specs.Safety.Device.{Tasked, Fits, Device, boxed-same, boxed-other, first-given, celled, drains-below}
+use Rattle.machine.specs.Safety.Device.{Tasked, Fits, Device, boxed-same, boxed-other, listed-given, celled, drains-below}
 
 -- after a drain the owner goes on, or its way ends, with what it has
 drain-fits : (c : Setup) (p : Purpose) (k : ℕ) (x : T.Stand) (ms : List Message) (js : List ℕ) → Fits c (draining p k) x ms js
@@ -79,8 +80,9 @@ module _ (c : Setup) (s : State) (locked : Locked c (s .lock) (s .place)) (v : T
       H.can-receive j x ms (celled c s h w t j hw p a b)
   task-may (view.does-own t p q) = tt
   task-may (view.does-drain u k p) = tt
-  task-may (view.does-fill n u j js p q f l) = H.can-hold j (first-given c s h v j js q)
-  task-may (view.does-take n j js p q) = let (k, (x, ms, is)) = rw p at (h .fits w) in H.can-take j x ms (first-given c s h v j js q)
+  task-may (view.does-fill n u j js p q f l) = H.can-hold j (listed-given c s h v j (chosen-listed q))
+  task-may (view.does-take n j js p q) =
+      let (k, (x, ms, is)) = rw p at (h .fits w) in H.can-take j x ms (listed-given c s h v j (chosen-listed q))
   task-may (view.does-take-none n p q) = tt
   task-may (view.does-hand-over n p) = tt
   task-may (view.does-leave p) = tt
@@ -110,11 +112,11 @@ module _ (c : Setup) (s : State) (locked : Locked c (s .lock) (s .place)) (v : T
       omega (
         arith,
         sum-upd (c .workers) (count i) (s .queue) k [] (drains-below c s h w u k p),
-        count-append i (s .readyList) (s .queue k),
+        arrive-count i (s .readyList) (s .queue k),
         count-nil i,
       )
-  stored-after (view.does-fill n u j js p q f l) i = omega (arith, ap (count i) q ∙ count-cons i j js)
-  stored-after (view.does-take n j js p q) i = omega (arith, ap (count i) q ∙ count-cons i j js)
+  stored-after (view.does-fill n u j js p q f l) i = omega (arith, chosen-count q i)
+  stored-after (view.does-take n j js p q) i = omega (arith, chosen-count q i)
   stored-after (view.does-take-none n p q) i = refl
   stored-after (view.does-hand-over n p) i = refl
   stored-after (view.does-leave p) i = refl

@@ -13,21 +13,21 @@ use Rattle.play.proofs.run_in.Tie as tie
 
 set-up-requires : tie.Need-set-up-requires
 set-up-requires c κs =
-    let laying = c .before .before .before .before .before .before .before .before .before in
+    let laying = c .before .before .before .before .before .before .before .before .before .before in
     let start = laying .before .before .before .before .before .before .before .before .before .before .before in
     let lengths = start .pre .1 .0 in
     let (p, e, says) = start .pre .1 .1 in
-    ((lengths .5, lengths .6, lengths .7), (_, p, e, says .tasks))
+    ((lengths .4, lengths .5, lengths .6, lengths .7), (_, p, e, says .tasks))
 
 play-orders-requires : tie.Need-play-orders-requires
 play-orders-requires c κs =
     let playing = c .before .before .before .before .before .before .before .before .before .before .before in
-    let laid = playing .before .before .before .before .before .before .before .before .before .before .before in
-    let laying = laid .before .before .before .before .before .before .before .before .before .before in
+    let laid = playing .before .before .before .before .before .before .before .before .before .before .before .before .before in
+    let laying = laid .before .before .before .before .before .before .before .before .before .before .before in
     let start = laying .before .before .before .before .before .before .before .before .before .before .before in
     let lengths = start .pre .1 .0 in
     let (p, e, says) = start .pre .1 .1 in
-    let made = laid .set-up .ensures _ p _ _ e (says .tasks) (start .pre .0 .0) (start .pre .0 .1) (start .pre .1 .0 .8) in
+    let made = laid .set-up .ensures _ p _ e (says .tasks) (start .pre .0 .0) (start .pre .0 .1) (lengths .8) in
     record {
       room = start .pre .0 .0;
       long = record {
@@ -35,10 +35,10 @@ play-orders-requires c κs =
         registrations = laid .set-up .kept .1 .1 .1 .1 .1 .0 ∙ lengths .1;
         tickets = laid .set-up .kept .1 .1 .1 .1 .1 .1 .0 ∙ lengths .2;
         cells = laid .set-up .kept .1 .1 .1 .1 .1 .1 .1 .0 ∙ lengths .3;
-        device = lengths .4;
+        device = laid .set-up .kept .1 .1 .1 .1 .1 .1 .1 .1 .0 ∙ lengths .4;
         tasks = record {
-          rows = laid .set-up .kept .1 .1 .1 .1 .1 .1 .1 .1 .0 ∙ lengths .5;
-          accesses = laid .set-up .kept .1 .1 .1 .1 .1 .1 .1 .1 .1 .0 ∙ lengths .6;
+          rows = laid .set-up .kept .1 .1 .1 .1 .1 .1 .1 .1 .1 .0 ∙ lengths .5;
+          accesses = laid .set-up .kept .1 .1 .1 .1 .1 .1 .1 .1 .1 .1 .0 ∙ lengths .6;
         };
       };
       text = _;
@@ -54,20 +54,28 @@ answer-of-requires c κs =
     let answering = c .before .before .before .before .before .before .before .before .before .before in
     let end = answering .before .before .before .before .before .before .before .before .before .before .before in
     let playing = end .before .before .before .before .before .before .before .before .before .before .before .before in
-    let laid = playing .before .before .before .before .before .before .before .before .before .before .before in
-    let laying = laid .before .before .before .before .before .before .before .before .before .before in
+    let laid = playing .before .before .before .before .before .before .before .before .before .before .before .before .before in
+    let laying = laid .before .before .before .before .before .before .before .before .before .before .before in
     let start = laying .before .before .before .before .before .before .before .before .before .before .before in
     let lengths = start .pre .1 .0 in
     let (p, e, says) = start .pre .1 .1 in
-    let made = laid .set-up .ensures _ p _ _ e (says .tasks) (start .pre .0 .0) (start .pre .0 .1) (start .pre .1 .0 .8) in
+    let made = laid .set-up .ensures _ p _ e (says .tasks) (start .pre .0 .0) (start .pre .0 .1) (lengths .8) in
     let held = end .play-orders .ensures .0 _ p e (says .count) (says .orders) (made .0) in (
       (
         omega (arith, end .play-orders .kept .1 .1 .1 .1 .1 .1 .1 .1 .1 .1 .1 .0, start .pre .0 .0),
-        end .play-orders .kept .1 .1 .1 .1 .1 .1 .1 .1 .0 ∙ lengths .4,
-        end .play-orders .kept .1 .1 .1 .1 .1 .1 .1 .1 .1 .0 ∙ laid .set-up .kept .1 .1 .1 .1 .1 .1 .1 .1 .0 ∙ lengths .5,
-        laid .set-up .kept .1 .1 .1 .1 .1 .1 .1 .1 .1 .1 .0 ∙ lengths .7,
+        end .play-orders .kept .1 .1 .1 .1 .1 .1 .1 .1 .0 ∙ laid .set-up .kept .1 .1 .1 .1 .1 .1 .1 .1 .0 ∙ lengths .4,
+        end .play-orders .kept .1 .1 .1 .1 .1 .1 .1 .1 .1 .0 ∙ laid .set-up .kept .1 .1 .1 .1 .1 .1 .1 .1 .1 .0 ∙ lengths .5,
+        laid .set-up .kept .1 .1 .1 .1 .1 .1 .1 .1 .1 .1 .1 .0 ∙ lengths .7,
       ),
-      (memory (end .play-orders .result) _ _ _ _ [] [] _, setupOf p, reached p (start .args .limit), sized _ p e, small _ p e (start .args .limit), made .1, held),
+      (
+        memory (end .play-orders .result) _ _ _ _ [] [] _,
+        setupOf p,
+        reached p (start .args .limit),
+        sized _ p e,
+        small _ p e (start .args .limit),
+        made .1,
+        held,
+      ),
     )
 
 same-length : tie.Need-same-length
@@ -75,7 +83,7 @@ same-length c =
     let answering = c .before .before .before .before .before .before .before .before .before .before .before .before .before in
     let end = answering .before .before .before .before .before .before .before .before .before .before .before in
     let playing = end .before .before .before .before .before .before .before .before .before .before .before .before in
-    let laid = playing .before .before .before .before .before .before .before .before .before .before .before in
+    let laid = playing .before .before .before .before .before .before .before .before .before .before .before .before .before in
     end .play-orders .kept .1 .1 .1 .1 .0 ∙ laid .set-up .kept .1 .1 .1 .1 .0
 
 same-length-2 : tie.Need-same-length-2
@@ -83,7 +91,7 @@ same-length-2 c =
     let answering = c .before .before .before .before .before .before .before .before .before .before .before .before .before in
     let end = answering .before .before .before .before .before .before .before .before .before .before .before in
     let playing = end .before .before .before .before .before .before .before .before .before .before .before .before in
-    let laid = playing .before .before .before .before .before .before .before .before .before .before .before in
+    let laid = playing .before .before .before .before .before .before .before .before .before .before .before .before .before in
     end .play-orders .kept .1 .1 .1 .1 .1 .0 ∙ laid .set-up .kept .1 .1 .1 .1 .1 .0
 
 same-length-3 : tie.Need-same-length-3
@@ -91,7 +99,7 @@ same-length-3 c =
     let answering = c .before .before .before .before .before .before .before .before .before .before .before .before .before in
     let end = answering .before .before .before .before .before .before .before .before .before .before .before in
     let playing = end .before .before .before .before .before .before .before .before .before .before .before .before in
-    let laid = playing .before .before .before .before .before .before .before .before .before .before .before in
+    let laid = playing .before .before .before .before .before .before .before .before .before .before .before .before .before in
     end .play-orders .kept .1 .1 .1 .1 .1 .1 .0 ∙ laid .set-up .kept .1 .1 .1 .1 .1 .1 .0
 
 same-length-4 : tie.Need-same-length-4
@@ -99,35 +107,40 @@ same-length-4 c =
     let answering = c .before .before .before .before .before .before .before .before .before .before .before .before .before in
     let end = answering .before .before .before .before .before .before .before .before .before .before .before in
     let playing = end .before .before .before .before .before .before .before .before .before .before .before .before in
-    let laid = playing .before .before .before .before .before .before .before .before .before .before .before in
+    let laid = playing .before .before .before .before .before .before .before .before .before .before .before .before .before in
     end .play-orders .kept .1 .1 .1 .1 .1 .1 .1 .0 ∙ laid .set-up .kept .1 .1 .1 .1 .1 .1 .1 .0
 
 same-length-5 : tie.Need-same-length-5
-same-length-5 c = search needs
+same-length-5 c =
+    let answering = c .before .before .before .before .before .before .before .before .before .before .before .before .before in
+    let end = answering .before .before .before .before .before .before .before .before .before .before .before in
+    let playing = end .before .before .before .before .before .before .before .before .before .before .before .before in
+    let laid = playing .before .before .before .before .before .before .before .before .before .before .before .before .before in
+    end .play-orders .kept .1 .1 .1 .1 .1 .1 .1 .1 .0 ∙ laid .set-up .kept .1 .1 .1 .1 .1 .1 .1 .1 .0
 
 same-length-6 : tie.Need-same-length-6
 same-length-6 c =
     let answering = c .before .before .before .before .before .before .before .before .before .before .before .before .before in
     let end = answering .before .before .before .before .before .before .before .before .before .before .before in
     let playing = end .before .before .before .before .before .before .before .before .before .before .before .before in
-    let laid = playing .before .before .before .before .before .before .before .before .before .before .before in
-    end .play-orders .kept .1 .1 .1 .1 .1 .1 .1 .1 .1 .0 ∙ laid .set-up .kept .1 .1 .1 .1 .1 .1 .1 .1 .0
+    let laid = playing .before .before .before .before .before .before .before .before .before .before .before .before .before in
+    end .play-orders .kept .1 .1 .1 .1 .1 .1 .1 .1 .1 .0 ∙ laid .set-up .kept .1 .1 .1 .1 .1 .1 .1 .1 .1 .0
 
 same-length-7 : tie.Need-same-length-7
 same-length-7 c =
     let answering = c .before .before .before .before .before .before .before .before .before .before .before .before .before in
     let end = answering .before .before .before .before .before .before .before .before .before .before .before in
     let playing = end .before .before .before .before .before .before .before .before .before .before .before .before in
-    let laid = playing .before .before .before .before .before .before .before .before .before .before .before in
-    end .play-orders .kept .1 .1 .1 .1 .1 .1 .1 .1 .1 .1 .0 ∙ laid .set-up .kept .1 .1 .1 .1 .1 .1 .1 .1 .1 .0
+    let laid = playing .before .before .before .before .before .before .before .before .before .before .before .before .before in
+    end .play-orders .kept .1 .1 .1 .1 .1 .1 .1 .1 .1 .1 .0 ∙ laid .set-up .kept .1 .1 .1 .1 .1 .1 .1 .1 .1 .1 .0
 
 same-length-8 : tie.Need-same-length-8
 same-length-8 c =
     let answering = c .before .before .before .before .before .before .before .before .before .before .before .before .before in
     let end = answering .before .before .before .before .before .before .before .before .before .before .before in
     let playing = end .before .before .before .before .before .before .before .before .before .before .before .before in
-    let laid = playing .before .before .before .before .before .before .before .before .before .before .before in
-    laid .set-up .kept .1 .1 .1 .1 .1 .1 .1 .1 .1 .1 .0
+    let laid = playing .before .before .before .before .before .before .before .before .before .before .before .before .before in
+    laid .set-up .kept .1 .1 .1 .1 .1 .1 .1 .1 .1 .1 .1 .0
 
 same-length-9 : tie.Need-same-length-9
 same-length-9 c = search needs
@@ -140,14 +153,15 @@ returns c =
     let answering = c .before .before .before .before .before .before .before .before .before .before .before .before .before in
     let end = answering .before .before .before .before .before .before .before .before .before .before .before in
     let playing = end .before .before .before .before .before .before .before .before .before .before .before .before in
-    let laid = playing .before .before .before .before .before .before .before .before .before .before .before in
-    let laying = laid .before .before .before .before .before .before .before .before .before .before in
+    let laid = playing .before .before .before .before .before .before .before .before .before .before .before .before .before in
+    let laying = laid .before .before .before .before .before .before .before .before .before .before .before in
     let start = laying .before .before .before .before .before .before .before .before .before .before .before in (
       λ p left e says.
-          let made = laid .set-up .ensures _ p _ _ e (says .tasks) (start .pre .0 .0) (start .pre .0 .1) (start .pre .1 .0 .8) in
+          let limit = start .args .limit in
+          let made = laid .set-up .ensures _ p _ e (says .tasks) (start .pre .0 .0) (start .pre .0 .1) (start .pre .1 .0 .8) in
           let held = end .play-orders .ensures .0 _ p e (says .count) (says .orders) (made .0) in
           let m = memory (end .play-orders .result) _ _ _ _ [] [] _ in
-          c .before .before .answer-of .ensures m (setupOf p) (reached p (start .args .limit)) left (small _ p e (start .args .limit)) (made .1) held,
+          c .before .before .answer-of .ensures m (setupOf p) (reached p limit) left (sized _ p e) (small _ p e limit) (made .1) held,
       end .play-orders .ensures .1,
     )
 

@@ -1,5 +1,9 @@
 -- `run_plan` meets its contract.
+use Prim.Native.Nat.{_+_}
+use native.Mathlib.Omega.{arith}
 use mathlib.Core.Path.{refl}
+use lib.ListN.{getD-replicate}
+use Rattle.steps.specs.Layout.{GIVERS, deviceSize}
 use borrow.Author.Needs.{needs}
 use Rattle.play.proofs.run_plan.Statement.{statement}
 use Rattle.play.proofs.run_plan.Tie as tie
@@ -31,7 +35,7 @@ slice-aggregate-run-in-8 c = search needs
 run-in-requires : tie.Need-run-in-requires
 run-in-requires c κs =
     let pre = c .before .before .before .before .before .before .before .before .before .before .before .before .before .before .before .pre in
-    (pre .0, ((refl, refl, refl, refl, refl, refl, refl, refl, refl), pre .1))
+    (pre .0, ((refl, refl, refl, refl, refl, refl, refl, refl, λ i l. getD-replicate deviceSize (GIVERS + i) 0 0 (omega arith)), pre .1))
 
 same-length : tie.Need-same-length
 same-length c = search needs

@@ -21,6 +21,15 @@ add-s c = search needs
 enum-told-3 : tie.Need-enum-told-3
 enum-told-3 c = search needs
 
+sub-keep-mask : tie.Need-sub-keep-mask
+sub-keep-mask c = c .before .before .before .before .before .before .before .pre .3 (c .before .before .enum-told3 .given .1)
+
+keep-mask-requires : tie.Need-keep-mask-requires
+keep-mask-requires c κs = search needs
+
+enum-told-4 : tie.Need-enum-told-4
+enum-told-4 c = search needs
+
 keep-order-requires : tie.Need-keep-order-requires
 keep-order-requires c κs = search needs
 
@@ -47,6 +56,14 @@ same-length-2 c = search needs
 returns-4 : tie.Need-returns-4
 returns-4 c =
     let k = c .before .before .before .before .before .enum-told3 .given .1 in
+    record { counts = rw k; rows = rw k (c .before .before .keep-mask .ensures); lines = rw k }
+
+same-length-3 : tie.Need-same-length-3
+same-length-3 c = search needs
+
+returns-5 : tie.Need-returns-5
+returns-5 c =
+    let k = c .before .before .before .before .before .enum-told4 .given .1 in
     record { counts = rw k; rows = rw k; lines = rw k (c .before .before .before .keep-order .ensures) }
 
 pub keep-spec : {M : Type 1} → statement M
@@ -59,6 +76,9 @@ keep-spec =
     keep-task-requires
     add-s
     enum-told-3
+    sub-keep-mask
+    keep-mask-requires
+    enum-told-4
     keep-order-requires
     add-s-2
     returns
@@ -66,4 +86,6 @@ keep-spec =
     same-length
     returns-3
     same-length-2
-    returns-4)
+    returns-4
+    same-length-3
+    returns-5)

@@ -17,9 +17,10 @@ use Rattle.kept.specs.Layout.{taskRow}
 use Rattle.kept.specs.OrderLaws.{orders-length}
 use Rattle.kept.specs.TaskLaws.{tasks-length}
 use Rattle.lines.specs.declared.line.Fault.the-variants.{Nothing, Is}
+use Rattle.lines.specs.Judging.{judged}
 use Rattle.reader.specs.Verdict.{lent}
 use Rattle.reader.proofs.Turns.{comes, comes-formless, InLine, found, line-place, line-inside, access-next, access-read, access-wrong}
-use Rattle.reader.proofs.Turns.{ended-reach, line-refused, AtLine, text-begins, in-hand, not-formed, line-kept}
+use Rattle.reader.proofs.Turns.{ended-reach, line-refused, AtLine, text-begins, in-hand, not-formed, some-task, line-kept}
 use Rattle.reader.proofs.Turns.{gives-refused, gives-misplaced, gives-accepted}
 use Rattle.reader.proofs.read_lines.Statement.{statement}
 use Rattle.reader.proofs.read_lines.Tie as tie
@@ -102,13 +103,27 @@ left c =
       λ e. let q : Is (w .12 .given .0 .0) ≡ Nothing = sym (w .12 .given .1) ∙ sym (w .15) ∙ e in clash (cc),
       λ r e.
           let hand = in-hand g (w .3 .ensures) (sym (w .6 .ensures) ∙ w .7 .left) (w .5 .ensures) (w .8 .inv .3) in
-          let whole-line = found hand (w .9 .left) in (
-            line-refused (o .number) whole-line r (rw (g .sums .tasks) at (sym (w .10 .ensures) ∙ sym (w .15) ∙ e)),
-            rw (w .14 ∙ w .9 .left, w .13 ∙ w .8 .inv .2) (ended-reach whole-line),
+          let ended = found hand (w .9 .left) in (
+            line-refused (o .number) ended r (rw (g .sums .tasks) at (sym (w .10 .ensures) ∙ sym (w .15) ∙ e)),
+            rw (w .14 ∙ w .9 .left, w .13 ∙ w .8 .inv .2) (ended-reach ended),
           ),
     ))
 
--- a line without fault is kept
+-- the line in hand has ended, and has no fault
+whole-line : (c : tie.After-enum-told4 Inv-loop μ-loop Inv-lines μ-lines)
+    → let l = c .before .before .before .before in
+    let o = outer l .lines in
+    let line = l .before .before .before .before .before .read-line .result in
+    InLine (start (outer l) .args .text .now) (o .looks) (o .inv .2 .p) line (l .loop .at) false (l .loop .accesses) (l .loop .row)
+    × (judged line (l .loop .accesses) (o .sofar .tasks) ≡ Nothing)
+whole-line c =
+    let l = c .before .before .before .before in
+    let right = sym (l .before .before .is-wrong .ensures) ∙ l .before .if1 .left in
+    let read = l .before .before .before .before .before .read-line in
+    let hand = in-hand (outer l .lines .inv .2) (read .ensures) right (l .before .before .before .no-accesses .ensures) (l .loop .inv .3) in
+    (found hand (c .before .before .before .loop-test .left), sym (c .before .before .judge .ensures) ∙ c .enum-told4 .given .1)
+
+-- it is kept
 one-line : (c : tie.After-keep Inv-loop μ-loop Inv-lines μ-lines)
     → let l = c .before .before .before .before .before .before .before .before in
     let o = outer l .lines in
@@ -116,13 +131,9 @@ one-line : (c : tie.After-keep Inv-loop μ-loop Inv-lines μ-lines)
     (o .looks < l .loop .at) × AtLine (a .text .now) (lent (a .rows .now) (a .orders .now)) (c .keep .result) (o .number + 1) (l .loop .at)
     (lent (c .keep .last .1 .1 .1 .0) (c .keep .last .1 .1 .1 .1 .0))
 one-line c =
-    let l = c .before .before .before .before .before .before .before .before in
-    let g = outer l .lines .inv .2 in
-    let right = sym (l .before .before .is-wrong .ensures) ∙ l .before .if1 .left in
-    let read = l .before .before .before .before .before .read-line in
-    let hand = in-hand g (read .ensures) right (l .before .before .before .no-accesses .ensures) (l .loop .inv .3) in
-    line-kept g (c .keep .ensures) (found hand (c .before .before .before .before .before .before .before .loop-test .left))
-    (sym (c .before .before .before .before .before .before .judge .ensures) ∙ c .before .before .before .before .enum-told4 .given .1)
+    let x = c .before .before .before .before in
+    let g = outer (x .before .before .before .before) .lines .inv .2 in
+    line-kept g (c .keep .ensures) (whole-line x .0) (whole-line x .1)
 
 no-lines-requires : tie.Need-no-lines-requires Inv-loop μ-loop Inv-lines μ-lines
 no-lines-requires c κs = search needs
@@ -197,7 +208,11 @@ slice-aggregate-keep : tie.Need-slice-aggregate-keep Inv-loop μ-loop Inv-lines 
 slice-aggregate-keep c = search needs
 
 keep-requires : tie.Need-keep-requires Inv-loop μ-loop Inv-lines μ-lines
-keep-requires c κs = search needs
+keep-requires c κs =
+    let x = c .before .before .before in
+    let o = outer (x .before .before .before .before) in
+    let g = o .lines .inv .2 in
+    (search needs, omega (arith, start o .pre), search needs, some-task g (whole-line x .0) (whole-line x .1))
 
 add-number : tie.Need-add-number Inv-loop μ-loop Inv-lines μ-lines
 add-number c =

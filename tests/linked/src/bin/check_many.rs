@@ -12,9 +12,11 @@ fn main() {
         Ok(counts) => {
             println!("{count} texts from seed {seed}, no difference");
             println!("{:9} accepted", counts.accepted);
-            for number in [1, 2, 3, 4, 5, 6, 9] {
+            println!("{:9} of these with M lines", counts.with_masks);
+            for number in [1, 2, 3, 4, 5, 6, 9, 11] {
                 println!("{:9} refused with {number}", counts.refused[number]);
             }
+            println!("{:9} refused in an M line", counts.in_masks);
             println!("{:9} refused in one of several lines", counts.of_several);
             println!("{:9} of these not in the last", counts.before_the_last);
         }

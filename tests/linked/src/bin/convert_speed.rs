@@ -1,6 +1,6 @@
 //! convert_speed: the proved check and converters beside the second
 //! implementation's on the same plans, in one run: plans of the first form of
-//! 65,000 bytes, and the same ones moved to the second.
+//! 65,000 bytes without M lines, and the same ones moved to the second.
 //!
 //! A converter checks its text and then copies it. Its speed beyond the check is that
 //! of the time which it takes longer than the check of the same text.
@@ -9,7 +9,7 @@ use linked::speed::shortest;
 use linked::{bench, convert};
 use second::convert::Converter;
 use second::plan::{Refusal, TEXT_LIMIT};
-use second::random::{first_form, plan_of_size, Rng};
+use second::random::{first_form, plan_of_size, without_masks, Rng};
 use std::hint::black_box;
 
 const PLANS: usize = 16;
@@ -90,7 +90,8 @@ fn measure(name: &str, texts: &[Vec<u8>], proved: Converter, second: Converter) 
 
 fn main() {
     let mut rng = Rng::new(SIZE as u64);
-    let plans = (0..PLANS).map(|_| first_form(&mut rng, |rng| plan_of_size(rng, SIZE)));
+    let draw = |rng: &mut Rng| without_masks(rng, |rng| plan_of_size(rng, SIZE));
+    let plans = (0..PLANS).map(|_| first_form(&mut rng, draw));
     let first: Vec<Vec<u8>> = plans.collect();
     let second = first.iter().map(|text| moved(convert::to_second, text));
     let second: Vec<Vec<u8>> = second.collect();

@@ -1,13 +1,19 @@
-//! reports COUNT SEED [PLAN..]: a line for each plan file of the first form and for
-//! COUNT random calls of the run with texts of that form, by seeds from SEED up: name,
-//! refusal number and line, picks, length, and a hash of all that is left in store
-//! and output. Builds that answer alike print the same.
+//! reports KNOWN COUNT SEED [PLAN..]: a line for each plan file and for COUNT random
+//! calls of the run, by seeds from SEED up, with texts that mean the same, or are
+//! refused alike, in builds that know no more than KNOWN, which is one of first-form,
+//! both-forms and masks. A line has name, refusal number and line, picks, length, a hash
+//! of the report and all of the store, and whether the output past the report is as it
+//! was. Where KNOWN is less than masks the report is taken without the field that came
+//! with them, so builds that answer alike but for it print the same.
 //!
-//! reports show SEED: the random call of a seed, and its text.
+//! reports known: what the build knows that is linked here.
+//!
+//! reports show KNOWN SEED: the random call of a seed, and its text.
 
 use linked::bench::{run, REPORT_SIZE};
-use linked::many::{first_form_call, used_output, used_store, Call};
-use second::random::{is_first_form, Rng};
+use linked::known::{field_length, without_field, Known};
+use linked::many::{known_call, used_output, used_store, Call};
+use second::random::Rng;
 use second::run::STORE_SIZE;
 use std::io::{self, Write};
 use std::process::exit;
@@ -19,29 +25,44 @@ fn hash(from: u64, bytes: &[u8]) -> u64 {
     })
 }
 
-/// The whole answer to a call. What a refusal has none of is 0.
-fn answer(mut call: Call) -> String {
+/// The whole answer to a call of a build that knows what is known `here`. What a refusal
+/// has none of is 0. Where the report lacks a field the output is shorter by it.
+fn answer(mut call: Call, known: Known, here: Known) -> String {
+    if here < Known::Masks {
+        let room = call.output.len().saturating_sub(field_length(&call.text));
+        call.output.truncate(room);
+    }
+    let before = call.output.clone();
     let answer = run(&call.text, call.limit, &mut call.store, &mut call.output);
-    let mut left = hash(0xcbf2_9ce4_8422_2325, &call.output);
+    let (number, line) = answer.map_or_else(|no| (no.number, no.line), |_| (0, 0));
+    let (picks, length) = answer.map_or((0, 0), |all| (all.picks, all.length));
+    let mut report = call.output[..length].to_vec();
+    if length > 0 && known < Known::Masks && here == Known::Masks {
+        report = without_field(&report);
+    }
+    let mut left = hash(0xcbf2_9ce4_8422_2325, &report);
     for number in &call.store {
         left = hash(left, &number.to_le_bytes());
     }
-    let (number, line) = answer.map_or_else(|no| (no.number, no.line), |_| (0, 0));
-    let (picks, length) = answer.map_or((0, 0), |all| (all.picks, all.length));
-    format!("{number} {line} {picks} {length} {left:016x}")
+    let kept = call.output[length..] == before[length..];
+    let past = if kept { "kept" } else { "changed" };
+    format!(
+        "{number} {line} {picks} {} {left:016x} {past}",
+        report.len()
+    )
 }
 
-fn random_call(seed: u64) -> Call {
-    first_form_call(&mut Rng::new(seed))
+fn random_call(known: Known, seed: u64) -> Call {
+    known_call(&mut Rng::new(seed), known)
 }
 
-/// A plan file with all the room it needs; nothing where it is of the second form.
-fn file_call(name: &str) -> Option<Call> {
+/// A plan file with all the room it needs; nothing where it needs more than is known.
+fn file_call(known: Known, name: &str) -> Option<Call> {
     let text = std::fs::read(name).unwrap_or_else(|error| {
         eprintln!("{name}: {error}");
         exit(2);
     });
-    is_first_form(&text).then(|| Call {
+    known.covers(&text).then(|| Call {
         text,
         limit: u64::MAX,
         store: used_store(STORE_SIZE + 7, 7),
@@ -49,15 +70,17 @@ fn file_call(name: &str) -> Option<Call> {
     })
 }
 
-fn print_all(count: u64, seed: u64, plans: &[String]) -> io::Result<()> {
+fn print_all(known: Known, count: u64, seed: u64, plans: &[String]) -> io::Result<()> {
     let mut out = io::stdout().lock();
+    let here = Known::here();
     for name in plans {
-        if let Some(call) = file_call(name) {
-            writeln!(out, "{name}: {}", answer(call))?;
+        if let Some(call) = file_call(known, name) {
+            writeln!(out, "{name}: {}", answer(call, known, here))?;
         }
     }
     for seed in seed..seed.saturating_add(count) {
-        writeln!(out, "seed {seed}: {}", answer(random_call(seed)))?;
+        let call = random_call(known, seed);
+        writeln!(out, "seed {seed}: {}", answer(call, known, here))?;
     }
     Ok(())
 }
@@ -68,17 +91,28 @@ fn show(call: &Call) -> io::Result<()> {
     io::stdout().write_all(&call.text)
 }
 
+fn usage() -> ! {
+    eprintln!("usage: reports KNOWN COUNT SEED [PLAN..]");
+    eprintln!("       reports known");
+    eprintln!("       reports show KNOWN SEED");
+    exit(2);
+}
+
 fn main() {
     let words: Vec<String> = std::env::args().skip(1).collect();
     let number = |at: usize| words.get(at).and_then(|word| word.parse().ok());
-    let shown = words.len() == 2 && words[0] == "show";
-    let done = match (number(0), number(1)) {
-        (None, Some(seed)) if shown => show(&random_call(seed)),
-        (Some(count), Some(seed)) => print_all(count, seed, &words[2..]),
-        _ => {
-            eprintln!("usage: reports COUNT SEED [PLAN..]\n       reports show SEED");
-            exit(2);
-        }
+    let known = |at: usize| words.get(at).and_then(|word| Known::named(word));
+    let first = words.first().map_or("", String::as_str);
+    let done = match (first, words.len()) {
+        ("known", 1) => writeln!(io::stdout(), "{}", Known::here().name()),
+        ("show", 3) => match (known(1), number(2)) {
+            (Some(known), Some(seed)) => show(&random_call(known, seed)),
+            _ => usage(),
+        },
+        _ => match (known(0), number(1), number(2)) {
+            (Some(known), Some(count), Some(seed)) => print_all(known, count, seed, &words[3..]),
+            _ => usage(),
+        },
     };
     if let Err(error) = done {
         eprintln!("reports: {error}");

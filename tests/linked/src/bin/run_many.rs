@@ -1,5 +1,6 @@
 //! run_many COUNT SEED: holds the proved run to the second implementation's on
-//! COUNT random and damaged plans, with random limits, stores and outputs.
+//! COUNT random and damaged plans, with random limits, stores and outputs. Says what M
+//! lines did in these runs.
 
 use linked::arguments::count_and_seed;
 use std::io::Write;
@@ -8,9 +9,18 @@ use std::process::exit;
 fn main() {
     let (count, seed) = count_and_seed("run_many");
     match linked::many::compare_many(count, seed) {
-        Ok((counts, picks)) => {
+        Ok(counts) => {
+            let picks = counts.picks;
             println!("{count} runs from seed {seed}, {picks} picks, no difference");
-            println!("reports and refusals 1 to 9: {counts:?}");
+            println!("reports and refusals 1 to 11: {:?}", counts.answers);
+            for (times, what) in [
+                (counts.with_masks, "reports of plans with M lines"),
+                (counts.passed_over, "with a task passed over"),
+                (counts.stopped_serving, "that stopped serving"),
+                (counts.left_ready, "where an owner left tasks ready"),
+            ] {
+                println!("{times:9} {what}");
+            }
         }
         Err((call, what)) => {
             eprintln!(

@@ -1,16 +1,18 @@
 //! run_speed [PART]: nanoseconds per pick of the proved run beside the second
 //! implementation's, on the same plans, in one run. A time holds the whole call:
 //! reading, clearing the store and the report too. Only lines whose name has PART
-//! in it are measured, if one is given. A plan of the second form that a build refuses
-//! with 1, as one that is older than that form does, has a line that says so.
+//! in it are measured, if one is given. Plans with M lines come last; no other plan's
+//! name has `M ` in it. A plan of the second form or with M lines that a build refuses
+//! with 1, as one that is older than these does, has a line that says so.
 //!
 //! The same machine code takes up to twice as long where stack and store happen to
 //! lie badly to each other, so each repetition has them elsewhere; and up to a fifth
 //! longer by where the linker puts it, so `tests/compare_speed` measures two builds
 //! in four links each: PAD bytes, given when it is built, stand before all code.
 
+use linked::known::Known;
 use second::plan::Refusal;
-use second::random::is_first_form;
+use second::random::Rng;
 use second::run::{Reported, STORE_SIZE};
 use std::fmt::Display;
 use std::hint::black_box;
@@ -164,6 +166,7 @@ fn cases() -> Vec<Case> {
         );
     }
     cases.extend(second_form_cases());
+    cases.extend(mask_cases());
     cases
 }
 
@@ -201,6 +204,47 @@ fn second_form_cases() -> Vec<Case> {
     cases
 }
 
+/// Tasks without accesses, which are all ready as soon as they are added.
+fn free(count: usize, cost: u64) -> Vec<String> {
+    vec![format!("T\tfree\t{cost}\n"); count]
+}
+
+/// The tasks with an M line each, of the mask that a draw gives.
+fn tied(tasks: &[String], mut mask: impl FnMut(&mut Rng) -> u64) -> Vec<String> {
+    let rng = &mut Rng::new(2026);
+    let tie = |task: &String| format!("{task}M\t{}\n", mask(rng));
+    tasks.iter().map(tie).collect()
+}
+
+/// Tasks tied to workers: any of them, one worker each, and all to the last worker, so
+/// that owners pass over ready tasks or leave them all.
+fn mask_cases() -> Vec<Case> {
+    let mut cases = Vec::new();
+    let mut add = |name: String, w: u64, tasks: &[String], orders: &[(String, usize)]| {
+        cases.push(Case {
+            name: format!("{name}, W {w}"),
+            text: plan(w, tasks, orders),
+            store: STORE_SIZE,
+        });
+    };
+    for w in [8, 32] {
+        let all = (1 << w) - 1;
+        for (name, order) in [("rounds", rounds()), ("seeded", seeded())] {
+            let tasks = tied(&tangle(128, 0), |rng| rng.between(1, all));
+            add(format!("M any, 4 accesses, {name}"), w, &tasks, &order);
+            let tasks = tied(&tangle(128, 0), |rng| 1 << rng.below(w));
+            add(format!("M one each, 4 accesses, {name}"), w, &tasks, &order);
+            let tasks = tied(&free(128, 0), |rng| 1 << rng.below(w));
+            add(format!("M one each, no access, {name}"), w, &tasks, &order);
+        }
+        let tasks = tied(&free(128, 0), |_| 1 << (w - 1));
+        add("M the last, no access, rounds".into(), w, &tasks, &rounds());
+        let tasks = tied(&free(128, 0), |_| all);
+        add("M all, no access, rounds".into(), w, &tasks, &rounds());
+    }
+    cases
+}
+
 /// Seconds of so many calls, and the picks of each.
 fn timed(run: Run, case: &Case, calls: u64, store: &mut [u64], output: &mut [u8]) -> (f64, u64) {
     let mut picks = 0;
@@ -234,7 +278,7 @@ fn measure(case: &Case) {
     let mut output = vec![0; 16_384];
     let proved: Run = linked::bench::run;
     let second: Run = second::run::run;
-    if !is_first_form(&case.text) {
+    if !Known::FirstForm.covers(&case.text) {
         let answer = proved(&case.text, 0, &mut room, &mut output);
         if matches!(answer, Err(Refusal { number: 1, .. })) {
             println!("{:46} refused", case.name);

@@ -10,10 +10,10 @@ use Rattle.lines.proofs.line.begin_row.Statement.{statement}
 use Rattle.lines.proofs.line.begin_row.Tie as tie
 
 abbrev Inv-loop : tie.InvT-loop
-Inv-loop row₀ place size cost k₀ row k = (length row ≡ 12) × (k ≤ 12) × Cleared row k
+Inv-loop row₀ place size cost k₀ row k = (length row ≡ 13) × (k ≤ 13) × Cleared row k
 
 abbrev μ-loop : tie.MeasureT-loop
-μ-loop row₀ place size cost k₀ row k = 12 - k
+μ-loop row₀ place size cost k₀ row k = 13 - k
 
 loop-holds : tie.Need-loop-holds Inv-loop μ-loop
 loop-holds c = (c .pre, omega arith, λ i l h. absurd (omega arith))

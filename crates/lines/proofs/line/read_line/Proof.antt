@@ -10,7 +10,8 @@ use lib.ListN.{length}
 use Rattle.text.specs.LineEnds.{Reaches, look-within, reaches-on, reaches-feed, reaches-other, reaches-look}
 use Rattle.plan.specs.Plan.{Plan}
 use Rattle.plan.specs.Line as plans
-use Rattle.plan.specs.Line.{'P', 'R', 'S', 'W', workersLine, picksLine, roundsLine, seededLine, oneNumber, twoNumbers, inForm, lineBy}
+use Rattle.plan.specs.Line.{'M', 'P', 'R', 'S', 'W', workersLine, maskLine, picksLine, roundsLine, seededLine}
+use Rattle.plan.specs.Line.{oneNumber, twoNumbers, inForm, lineBy}
 use Rattle.lines.specs.declared.line.Line.{Line}
 use Rattle.lines.specs.Lines.{Whole, LineAt}
 use Rattle.lines.proofs.Letters.{fields-on, whole-line, task-line, no-tab, no-letter}
@@ -68,7 +69,7 @@ returns c =
     let reach = reaches-feed (a .text .now) (a .at) (omega (arith, start .pre .0)) feed in
     λ p sums.
     rw (seen .1) (no-letter (a .text .now) (a .at) (c .wrong .ensures) reach 10 feed (omega arith) (omega arith) (omega arith) (omega arith)
-    (omega arith))
+    (omega arith) (omega arith))
 
 add-look : tie.Need-add-look
 add-look c = search needs
@@ -105,6 +106,15 @@ task-line-requires c κs =
     let start = c .before .before .before .before .before .before .before .before .before .before .before in
     let after = after-tab (c .before .before .before) in
     (after .0, start .pre .1, after .1)
+
+add-mask-line : tie.Need-add-mask-line
+add-mask-line c = search needs
+
+mask-line-requires : tie.Need-mask-line-requires
+mask-line-requires c κs =
+    let start = c .before .before .before .before .before .before .before .before .before .before in
+    let after = after-tab (c .before .before) in
+    (after .0, start .pre .2, after .1)
 
 add-picks-line : tie.Need-add-picks-line
 add-picks-line c = search needs
@@ -156,32 +166,39 @@ returns-5 : tie.Need-returns-5
 unfolding lineBy
 returns-5 c =
     λ p sums.
-    by-letter (c .before .before .before) 'P' (omega arith) (omega arith) (omega arith) (twoNumbers (picksLine p)) (λ fs. refl)
-    (c .picks-line .ensures p sums)
+    by-letter (c .before .before .before) 'M' (omega arith) (omega arith) (omega arith) (oneNumber (maskLine p)) (λ fs. refl)
+    (c .mask-line .ensures p sums)
 
 returns-6 : tie.Need-returns-6
 unfolding lineBy
 returns-6 c =
     λ p sums.
-    by-letter (c .before .before .before) 'R' (omega arith) (omega arith) (omega arith) (oneNumber (roundsLine p)) (λ fs. refl)
-    (c .rounds-line .ensures p sums)
+    by-letter (c .before .before .before) 'P' (omega arith) (omega arith) (omega arith) (twoNumbers (picksLine p)) (λ fs. refl)
+    (c .picks-line .ensures p sums)
 
 returns-7 : tie.Need-returns-7
 unfolding lineBy
 returns-7 c =
     λ p sums.
+    by-letter (c .before .before .before) 'R' (omega arith) (omega arith) (omega arith) (oneNumber (roundsLine p)) (λ fs. refl)
+    (c .rounds-line .ensures p sums)
+
+returns-8 : tie.Need-returns-8
+unfolding lineBy
+returns-8 c =
+    λ p sums.
     by-letter (c .before .before .before) 'S' (omega arith) (omega arith) (omega arith) (twoNumbers (seededLine p)) (λ fs. refl)
     (c .seeded-line .ensures p sums)
 
-returns-8 : tie.Need-returns-8
-returns-8 c =
+returns-9 : tie.Need-returns-9
+returns-9 c =
     let look = c .before .before .before .before .before .before in
     let a = c .before .before .before .before .before .before .before .before .before .before .args in
     let others = c .before .match .rest in
     let after = after-tab (c .before .before) in
     λ p sums.
     rw (after .1) (no-letter (a .text .now) (a .at) (c .wrong3 .ensures) (after .2) (look .look .result) (sym (look .look .ensures .0))
-    (others .0 .0 .0 .0 .1) (others .0 .0 .0 .1) (others .0 .0 .1) (others .0 .1) (others .1))
+    (others .0 .0 .0 .0 .0 .1) (others .0 .0 .0 .0 .1) (others .0 .0 .0 .1) (others .0 .0 .1) (others .0 .1) (others .1))
 
 pub read-line-spec : {M : Type 1} → statement M
 read-line-spec =
@@ -198,6 +215,8 @@ read-line-spec =
     workers-line-requires
     add-task-line
     task-line-requires
+    add-mask-line
+    mask-line-requires
     add-picks-line
     picks-line-requires
     add-rounds-line
@@ -211,4 +230,5 @@ read-line-spec =
     returns-5
     returns-6
     returns-7
-    returns-8)
+    returns-8
+    returns-9)

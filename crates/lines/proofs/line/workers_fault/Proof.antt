@@ -1,6 +1,6 @@
 -- `lines::line::workers_fault` meets its contract: the slots are judged where place and numbers have no fault. Assumes nothing.
 use mathlib.Core.Path.{_≡_, refl, _∙_}
-use mathlib.Core.Bool.{not}
+use mathlib.Core.Bool.{not, _&&_}
 use mathlib.Core.List.{[], _∷_}
 use native.Mathlib.Omega.{arith}
 use borrow.Author.Needs.{needs}
@@ -15,7 +15,7 @@ use Rattle.plan.specs.Reading.{firstRefusal}
 use Rattle.lines.specs.declared.line.Fault.{Fault}
 use Rattle.lines.specs.declared.line.Fault.the-variants.{Nothing, Is}
 use Rattle.lines.specs.Lines.{faultOf, faultIn}
-use Rattle.lines.proofs.Wholes.{firstOf, workers-fault}
+use Rattle.lines.proofs.Wholes.{firstOf, third-fault}
 use Rattle.lines.proofs.line.workers_fault.Statement.{statement}
 use Rattle.lines.proofs.line.workers_fault.Tie as tie
 
@@ -27,7 +27,8 @@ judged : (c : tie.After-first-fault) → let a = c .before .before .before .befo
 judged c p place last =
     let a = c .before .before .before .before .args in
     let out = c .before .either in
-    workers-fault p (a .workers) (a .form) (a .misplaced) (out .result) (c .first-fault .result) last place
+    third-fault (atStart p) (within 1 32 (a .workers) && sizesInRange (a .form)) (leb (a .workers) (slotsOf (a .form))) TooFewSlots
+    (a .misplaced) (out .result) (c .first-fault .result) last place
     (rw (out .ensures, c .before .before .before .outside .ensures, c .before .before .sizes-outside .ensures)
     (not-both (within 1 32 (a .workers)) (sizesInRange (a .form)))) (c .first-fault .ensures)
 

@@ -28,24 +28,42 @@ put-number-requires c κs =
     let at3 = short-next 8 (outcome-short done) (word .put-outcome .ensures) in
     omega (arith, at2, at3, letter .before .before .before .before .pre)
 
+put-number-requires-2 : tie.Need-put-number-requires-2
+put-number-requires-2 c κs =
+    let picks = c .before .before .before in
+    let word = picks .before .before .before .before in
+    let letter = word .before .before .before .before in
+    let done = letter .before .before .before .before .args .finished in
+    let at2 = short-next 1 (omega arith) (letter .put-field .ensures) in
+    let at3 = short-next 8 (outcome-short done) (word .put-outcome .ensures) in
+    omega (arith, at2, at3, picks .put-number .ensures .0, letter .before .before .before .before .pre)
+
 same-length : tie.Need-same-length
 same-length c = search needs
 
 returns : tie.Need-returns
 unfolding bytes
 returns c =
-    let number = c .before .before in
-    let word = number .before .before .before .before in
+    let total = c .before .before in
+    let picks = total .before .before .before .before in
+    let word = picks .before .before .before .before in
     let letter = word .before .before .before .before in
     let args = letter .before .before .before .before .args in
     let at2 = short-next 1 (omega arith) (letter .put-field .ensures) in
     let at3 = short-next 8 (outcome-short (args .finished)) (word .put-outcome .ensures) in
-    let last = wrote-last (number .put-number .ensures .1) refl in (
-      omega (arith, at2, at3, number .put-number .ensures .0),
-      wrote-field (letter .put-field .ensures) (wrote-field (word .put-outcome .ensures) last),
+    let last = wrote-last (total .put-number2 .ensures .1) refl in (
+      omega (arith, at2, at3, picks .put-number .ensures .0, total .put-number2 .ensures .0),
+      wrote-field (letter .put-field .ensures) (wrote-field (word .put-outcome .ensures) (wrote-field (picks .put-number .ensures .1) last)),
     )
 
 pub put-outcome-line-spec : {M : Type 1} → statement M
 put-outcome-line-spec =
     tie.close
-    (tie.spec slice-aggregate-put-field put-field-requires put-outcome-requires put-number-requires same-length returns)
+    (tie.spec
+    slice-aggregate-put-field
+    put-field-requires
+    put-outcome-requires
+    put-number-requires
+    put-number-requires-2
+    same-length
+    returns)

@@ -9,6 +9,7 @@ use lib.ListN.{length, getD, set, length-set}
 use lib.Seq.{set-getD}
 use borrow.Author.Needs.{needs}
 use Rattle.runs.specs.Circular.{entries}
+use Rattle.machine.specs.Ready.{arrive}
 use Rattle.steps.specs.Layout.{queuedAt, queueSlots, READY}
 use Rattle.runs.specs.Circular.{entries-none}
 use Rattle.steps.specs.Memory.{emptied, drained}
@@ -31,7 +32,7 @@ slice-read-count : tie.Need-slice-read-count Inv-loop μ-loop
 slice-read-count c = search needs
 
 returns : tie.Need-returns Inv-loop μ-loop
-unfolding drained
+unfolding drained arrive
 returns c =
     let s = c .before .before in
     let own = s .args .own .now in
@@ -102,6 +103,7 @@ same-length-2 : tie.Need-same-length-2 Inv-loop μ-loop
 same-length-2 c = search needs
 
 returns-2 : tie.Need-returns-2 Inv-loop μ-loop
+unfolding arrive
 returns-2 c =
     let l = c .before .loop in
     let s = c .before .before .before .before in
