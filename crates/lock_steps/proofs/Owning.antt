@@ -27,7 +27,7 @@ use Rattle.steps.specs.declared.Counts.{Counts}
 use Rattle.steps.specs.Memory.{part, station, Stationed, Slotted, Memory, withEnds, oneTaken, Given, Masked, Able}
 use Rattle.steps.specs.Ready.{readyIn, without, FallsFor}
 use Rattle.steps.proofs.Acting.{acts-hold, tasks-still, own-stationed}
-use Rattle.steps.proofs.Choosing.{behind, listed-length, task-known, choice-on, choice-off}
+use Rattle.steps.proofs.Choosing.{behind, listed-length, task-known, choice-inside, choice-past}
 use Rattle.lock_steps.specs.Lent.{lockIn, handedIn, withHanded, withServed}
 use Rattle.lock_steps.specs.Going.{Gone, Received, givenBy, handedOn}
 use Rattle.lock_steps.proofs.FromLock.{slots-are, Filled, lockWith, after-fill, after-pass, after-leave}
@@ -180,9 +180,10 @@ module _ {m : Memory} {own : List ℕ} {w : ℕ} (a : Able m own w) where
     takes-served enough = event-take-served (a .c) (a .s) w serves (omega (arith, a .holds .device .workers))
 
     -- the front waiter may run nothing that is ready
-    pub takes-stopped : (v k : ℕ) → L.front (a .c .slots) (a .s .lock) ≡ some v → FallsFor (m .counts) (m .device) v k → m .counts .ready ≤ k
-        → Takes
-    takes-stopped v k waiter found past = event-stop (a .c) (a .s) w serves waiter (choice-off a v k (a .fit .front v waiter) found past)
+    pub takes-stopped : (v k : ℕ) → L.front (a .c .slots) (a .s .lock) ≡ some v → FallsFor (m .counts) (m .device) v k
+        → m .counts .ready ≤ k → Takes
+    takes-stopped v k waiter found past =
+        event-stop (a .c) (a .s) w serves waiter (choice-past a v k (a .fit .front v waiter) found past)
 
     -- nothing is ready
     takes-empty : ((v : ℕ) → choice (a .c) (a .s) v ≡ nothing) → Takes
@@ -208,7 +209,7 @@ module _ {m : Memory} {own : List ℕ} {w : ℕ} (a : Able m own w) where
     pub none-acts : (k : ℕ) → Takes → FallsFor (m .counts) (m .device) w k → k ≡ m .counts .ready → (next : List ℕ)
         → Gone own next LEAVING 0 → Leads a m next
     none-acts k takes-it found past next gone =
-        takes-none takes-it (choice-off a w k (a .fit .worker) found (omega arith)) next gone
+        takes-none takes-it (choice-past a w k (a .fit .worker) found (omega arith)) next gone
 
     -- ---- the task at place k goes to the front waiter, or the owner takes it; `left` and r are what is left of the ready list
 
@@ -236,12 +237,13 @@ module _ {m : Memory} {own : List ℕ} {w : ℕ} (a : Able m own w) where
           → Leads a (withServed m r (m .registrations) stamped filled left rows) next
       fill-acts v waiter found fewer stamped filled rows next fill held gone =
           let e = fills (numberIn own) v task (without k (a .s .readyList)) in
-          let is = event-fill (a .c) (a .s) w serves waiter (omega (arith, a .holds .device .workers))
-          (choice-on a v k (a .fit .front v waiter) found task there is) in
+          let happens : event (a .c) (a .s) w ≡ e =
+          event-fill (a .c) (a .s) w serves waiter (omega (arith, a .holds .device .workers))
+          (choice-inside a v k (a .fit .front v waiter) found task there is) in
           rw (out .0 .0)
-          (acts-hold (a .holds) e is (withServed m (oneTaken (m .counts)) (m .registrations) stamped filled left rows) next
+          (acts-hold (a .holds) e happens (withServed m (oneTaken (m .counts)) (m .registrations) stamped filled left rows) next
           (after-fill a v task fill)
-          (tasks-after a e is (TH.holds task) refl rows next (rw (gone .kept) (held (tasks-of m) (part own) (m .counts .picks) w)))
+          (tasks-after a e happens (TH.holds task) refl rows next (rw (gone .kept) (held (tasks-of m) (part own) (m .counts .picks) w)))
           (refl, refl, refl)
           (gone .there (a .s .place w) (handing (numberIn own)) (a .s .queue w) (own-stationed a) (refl, refl))
           tt
@@ -258,7 +260,7 @@ module _ {m : Memory} {own : List ℕ} {w : ℕ} (a : Able m own w) where
       take-acts takes-it found rows next got =
           let e = takes task (without k (a .s .readyList)) in
           let happens : event (a .c) (a .s) w ≡ e =
-          takes-it ∙ ap (taking (a .c) (a .s)) (choice-on a w k (a .fit .worker) found task there is) in
+          takes-it ∙ ap (taking (a .c) (a .s)) (choice-inside a w k (a .fit .worker) found task there is) in
           let known = task-known a k task there is in
           let taken = oneTaken (m .counts) in
           rw (out .0 .0)

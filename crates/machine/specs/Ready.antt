@@ -6,7 +6,7 @@ use mathlib.Core.Path.{_≡_, refl, sym, ap, _∙_}
 use mathlib.Core.Logic.{⊎-elim, _≢_}
 use mathlib.Core.Bool.{Bool, true, false}
 use mathlib.Core.List.{List, [], _∷_, _++_, append-nil}
-use lib.ListN.{length, take, drop, getD}
+use lib.ListN.{length, take, drop, getD, length-append}
 use Rattle.runs.specs.Update.{same, clash}
 use Rattle.runs.specs.Counts.{is, is-same, is-other, count, count-nil, count-cons, count-append}
 
@@ -38,6 +38,10 @@ pub record Chosen (may : ℕ → Bool) (ready : List ℕ) (i : ℕ) (others : Li
 pub arrive-count : (i : ℕ) (ready tasks : List ℕ) → count i (arrive ready tasks) ≡ count i ready + count i tasks
 unfolding arrive
 arrive-count i ready tasks = count-append i ready tasks
+
+pub arrive-length : (ready tasks : List ℕ) → length (arrive ready tasks) ≡ length ready + length tasks
+unfolding arrive
+arrive-length ready tasks = length-append ready tasks
 
 pub arrive-none : (ready : List ℕ) → arrive ready [] ≡ ready
 unfolding arrive

@@ -15,7 +15,7 @@ use Rattle.runs.specs.Update.{upd, upd-id, upd-all, upd-both, map-upd}
 use Rattle.runs.specs.Circular.{entries}
 use Rattle.machine.specs.State.{Setup, State, Purpose, forServing, forAdding}
 use Rattle.machine.specs.State.{Place, idle, trying, registering, looking, draining, serving, handing, leaving}
-use Rattle.machine.specs.Ready.{arrive}
+use Rattle.machine.specs.Ready.{arrive, arrive-length}
 use Rattle.machine.specs.Step.{afterDraining, nextDrain}
 use Rattle.machine.specs.Events.{event-drain}
 use Rattle.machine.specs.Ranges.{Fit, acted}
@@ -26,7 +26,7 @@ use Rattle.steps.specs.Memory.{part, station, Stationed, Slotted, drained, Memo
 use Rattle.steps.specs.declared.Counts.{Counts}
 use Rattle.steps.proofs.Parts.{station-at, part-of, station-of}
 use Rattle.steps.proofs.Stations.{queue-count}
-use Rattle.steps.proofs.Choosing.{ready-length, arrive-length}
+use Rattle.steps.proofs.Choosing.{ready-length}
 use Rattle.scheduler.specs.Lent.{withDevice}
 use Rattle.scheduler.proofs.Lending.{withStation}
 

@@ -4,7 +4,7 @@ use native.Mathlib.Omega.{arith}
 use native.Mathlib.Numerals.{add-one}
 use mathlib.Core.Path.{_≡_, refl, sym, ap, _∙_}
 use mathlib.Core.List.{List, [], _∷_}
-use lib.ListN.{length, getD, drop, length-append}
+use lib.ListN.{length, getD, drop}
 use lib.Seq.{getD-drop}
 use Rattle.runs.specs.Counts.{count, count-cons, is-same}
 use Rattle.runs.specs.Circular.{entries, entries-length, entries-mod, entries-at, shifted, array-out}
@@ -13,7 +13,7 @@ use Rattle.plan.specs.PermitLaws.{permits-mask}
 use Rattle.tasks.specs.Accesses.{taskAt}
 use Rattle.memory.specs.Layout as layout
 use Rattle.machine.specs.Event.{may, choice}
-use Rattle.machine.specs.Ready.{nothing, chosen, arrive, choose-at, choose-nowhere}
+use Rattle.machine.specs.Ready.{nothing, chosen, choose-at, choose-nowhere}
 use Rattle.steps.specs.Layout.{READY}
 use Rattle.steps.specs.declared.Counts.{Counts}
 use Rattle.steps.specs.Memory.{Memory, oneTaken, Able}
@@ -40,9 +40,9 @@ module _ (n : Counts) (device : List ℕ) where
   pub falls : (w r : ℕ) → First (λ k. isSet (maskAt n device k) w) (n .ready) r → FallsFor n device w r
   falls w r first c masks below worker =
       record {
-        on = λ l. choose-at (may c w) (readyIn n device) r l (λ k b. tests k (omega (arith, first .within, b)) ∙ first .before k b)
+        inside = λ l. choose-at (may c w) (readyIn n device) r l (λ k b. tests k (omega (arith, first .within, b)) ∙ first .before k b)
             (tests r (omega (arith, ready-length)) ∙ first .found (omega (arith, ready-length)));
-        off = λ l. choose-nowhere (may c w) (readyIn n device)
+        past = λ l. choose-nowhere (may c w) (readyIn n device)
             (λ k b. tests k (omega (arith, ready-length)) ∙ first .before k (omega (arith, ready-length)));
       }
     where
@@ -67,11 +67,8 @@ module _ (n : Counts) (device : List ℕ) where
 pub behind : (device left : List ℕ) → drop READY left ≡ drop READY device → (j : ℕ) → READY ≤ j → getD left j 0 ≡ getD device j 0
 behind device left same j l =
     let at : READY + (j - READY) ≡ j = omega arith in
-    rw (← at) (sym (getD-drop READY left (j - READY) 0) ∙ ap (λ (xs : List ℕ). getD xs (j - READY) 0) same ∙ getD-drop READY device (j - READY) 0)
-
-pub arrive-length : (ready tasks : List ℕ) → length (arrive ready tasks) ≡ length ready + length tasks
-unfolding arrive
-arrive-length ready tasks = length-append ready tasks
+    rw (← at)
+    (sym (getD-drop READY left (j - READY) 0) ∙ ap (λ (xs : List ℕ). getD xs (j - READY) 0) same ∙ getD-drop READY device (j - READY) 0)
 
 -- ---- the list of a state that is held
 
@@ -100,9 +97,9 @@ module _ {m : Memory} {own : List ℕ} {w : ℕ} (a : Able m own w) where
     falls-here : Falls (may (a .c) v) (a .s .readyList) k
     falls-here = rw (a .holds .device .ready) at (at (a .c) (a .holds .device .masks) ready-below worker)
 
-    pub choice-on : (task : ℕ) → k < m .counts .ready → task ≡ getD (readyIn (m .counts) (m .device)) k 0
+    pub choice-inside : (task : ℕ) → k < m .counts .ready → task ≡ getD (readyIn (m .counts) (m .device)) k 0
         → choice (a .c) (a .s) v ≡ chosen task (without k (a .s .readyList))
-    choice-on task l is = rw (is, a .holds .device .ready) (falls-here .on (omega (arith, listed-length)))
+    choice-inside task l is = rw (is, a .holds .device .ready) (falls-here .inside (omega (arith, listed-length)))
 
-    pub choice-off : m .counts .ready ≤ k → choice (a .c) (a .s) v ≡ nothing
-    choice-off l = falls-here .off (omega (arith, listed-length))
+    pub choice-past : m .counts .ready ≤ k → choice (a .c) (a .s) v ≡ nothing
+    choice-past l = falls-here .past (omega (arith, listed-length))

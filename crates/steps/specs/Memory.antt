@@ -124,7 +124,7 @@ withEnds n ends =
       tally = n .tally;
     }
 
--- the numbers without the first ready task
+-- the numbers with one ready task less: the oldest is one slot further
 abbrev pub oneTaken : Counts → Counts
 oneTaken n =
     record {

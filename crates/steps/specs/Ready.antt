@@ -39,10 +39,10 @@ pub record First (test : ℕ → Bool) (n r : ℕ) : Type 0 where
 
 -- the choice falls on the task at place k, or on nothing where the list has no such place
 pub record Falls (may : ℕ → Bool) (tasks : List ℕ) (k : ℕ) : Type 0 where
-  pub on : k < length tasks → choose may tasks ≡ chosen (getD tasks k 0) (without k tasks)
-  pub off : length tasks ≤ k → choose may tasks ≡ nothing
+  pub inside : k < length tasks → choose may tasks ≡ chosen (getD tasks k 0) (without k tasks)
+  pub past : length tasks ≤ k → choose may tasks ≡ nothing
 
--- so it is for worker w, whatever setup has these masks and the tasks of the list
+-- so it is for worker w in each setup that has these masks and the tasks of the list
 abbrev pub FallsFor : Counts → List ℕ → (w k : ℕ) → Type 0
 FallsFor n device w k =
     (c : Setup) → Masked (c .workers) (c .tasks) device → Below (length (c .tasks)) (readyIn n device) → w < c .workers

@@ -52,8 +52,8 @@ pub(crate) fn push(own: &mut [u64], task: u64)
     own[QUEUED] = n + 1;
 }
 
-// Moves the queue behind the tasks in the ready list, a circular buffer with `n` entries, the oldest at `at`; the new number of them. What
-// lies behind the buffer stays.
+// The tasks of the queue arrive in the ready list, a circular buffer with `n` entries, the oldest at `at`; the new number of them. What lies
+// behind the buffer stays.
 pub fn drain(own: &mut [u64], ready: &mut [u64], at: u64, n: u64) -> u64
     requires { ⌜ (length (now own) ≡ stationSize) × (READY ≤ length (now ready)) × (at < READY) × (n + getD (now own) queuedAt 0 ≤ READY)
         × (getD (now own) queuedAt 0 ≤ queueSlots) ⌝ }

@@ -22,14 +22,15 @@ use Rattle.lock_steps.proofs.owner.serve_step.Tie as tie
 abbrev Owner : tie.Start → Memory → Type 0
 Owner start m =
     let x = start .args in
-    Able (withServed m (x .n) (x .registrations .now) (x .tickets .now) (x .cells .now) (x .device .now) (x .rows .now)) (x .own .now) (x .w)
+    Able (withServed m (x .n) (x .registrations .now) (x .tickets .now) (x .cells .now) (x .device .now) (x .rows .now)) (x .own .now)
+    (x .w)
 
 -- ---- a task for the waiter
 
 abbrev begun : tie.After-first-permitted → tie.Start
 begun served =
-    let asked = served .before .before .before .before .before .before .before .before in
-    asked .before .before .before .before .before .before .before .before .before
+    let at-if1 = served .before .before .before .before .before .before .before .before .before in
+    at-if1 .before .before .before .before .before .before .before .before
 
 -- who waits at the front
 abbrev waiter : tie.After-first-permitted → ℕ
@@ -38,7 +39,8 @@ waiter served = served .before .before .before .front .given .0 .0 .0
 waits : (served : tie.After-first-permitted) (m : Memory) (a : Owner (begun served) m)
     → L.front (a .c .slots) (a .s .lock) ≡ some (waiter served)
 waits served m a =
-    fronts a (served .before .before .before .before .before .front-waiter .ensures) (served .before .before .before .front .given .1)
+    let at-front = served .before .before .before in
+    fronts a (at-front .before .before .front-waiter .ensures) (at-front .front .given .1)
 
 -- ---- a task for the owner
 
@@ -47,10 +49,11 @@ begun-own own = own .before .before .before .before .before .before .before .bef
 
 takes-it : (own : tie.After-first-permitted2) (m : Memory) (a : Owner (begun-own own) m) → Takes a (begun-own own .pre .1)
 takes-it own m a =
-    ⊎-elim {C = Takes a (begun-own own .pre .1)}
-    (λ x. takes-stopped a (begun-own own .pre .1) _ (x .6 .result) (fronts a (x .1 .ensures) (x .3 .given .1)) (x .6 .ensures .1) (x .8 .left))
-    (⊎-elim (λ x. takes-alone a (begun-own own .pre .1) (fronts a (x .1 .ensures) (x .3 .given .1)))
-    (λ x. takes-served a (begun-own own .pre .1) (x .left)))
+    let place = begun-own own .pre .1 in
+    ⊎-elim {C = Takes a place}
+    (λ x. takes-stopped a place (x .3 .given .0 .0 .0) (x .6 .result) (fronts a (x .1 .ensures) (x .3 .given .1)) (x .6 .ensures .1)
+    (x .8 .left))
+    (⊎-elim (λ x. takes-alone a place (fronts a (x .1 .ensures) (x .3 .given .1))) (λ x. takes-served a place (x .left)))
     (own .before .before .if2 .came)
 
 go-to-requires : tie.Need-go-to-requires
@@ -77,7 +80,8 @@ add-if2 c =
 
 front-waiter-requires : tie.Need-front-waiter-requires
 front-waiter-requires c κs =
-    let (m, a) = c .before .before .before .before .before .before .before .before .before .before .before .pre .0 in
+    let at-if1 = c .before .before .before in
+    let (m, a) = at-if1 .before .before .before .before .before .before .before .before .pre .0 in
     (slots-some a, omega (arith, slots-few a, a .long .registrations))
 
 enum-known-front : tie.Need-enum-known-front
@@ -85,11 +89,13 @@ enum-known-front c = search needs
 
 first-permitted-requires : tie.Need-first-permitted-requires
 first-permitted-requires c κs =
-    let asked = c .before .before .before .before .before .before .before .before in
-    let start = asked .before .before .before .before .before .before .before .before in
-    let (m, a) = start .pre .0 in
-    let x = c .before .before .front .given in
-    let few = waiter-few a (start .pre .1) (x .0 .0 .0) (fronts a (c .before .before .before .before .front-waiter .ensures) (x .1)) in
+    let at-front = c .before .before in
+    let at-front-waiter = at-front .before .before in
+    let at-if1 = at-front-waiter .before .before .before .before in
+    let start = at-if1 .before .before .before .before .before .before .before .before in
+    let ((m, a), place) = start .pre in
+    let x = at-front .front .given in
+    let few = waiter-few a place (x .0 .0 .0) (fronts a (at-front-waiter .front-waiter .ensures) (x .1)) in
     (a .long .device, a .holds .device .ready-at, ready-few a, few, ready-tasks a)
 
 task-at-requires : tie.Need-task-at-requires
@@ -116,14 +122,13 @@ hold-requires c κs =
 
 go-to-requires-2 : tie.Need-go-to-requires-2
 go-to-requires-2 c κs =
-    let filled = c .before .before .before .before .before .before .before .before in
-    let served = filled .before .before .before .before .before .before .before .before in
-    own-long (begun served .pre .0 .1)
+    let at-fill = c .before .before .before .before .before .before .before .before .before in
+    own-long (begun (at-fill .before .before .before .before .before .before .before) .pre .0 .1)
 
 take-out-requires : tie.Need-take-out-requires
 take-out-requires c κs =
-    let filled = c .before .before .before .before .before .before .before .before .before in
-    let at-if3 = filled .before .before .before .before .before .before .before .before .before in
+    let at-fill = c .before .before .before .before .before .before .before .before .before .before .before .before .before in
+    let at-if3 = at-fill .before .before .before .before .before in
     let served = at-if3 .before .before in
     let (m, a) = begun served .pre .0 in
     (omega (arith, a .long .device), a .holds .device .ready-at, ready-few a, at-if3 .if3 .taken)
@@ -227,7 +232,8 @@ note-giver-requires c κs =
     let (m, a) = start .pre .0 in
     let known = task-known a (own .first-permitted2 .result) (at-task .task-at2 .result) (there at-if4) (at-task .task-at2 .ensures .1) in
     let few = workers-few (a .fit) (start .args .w) (a .fit .worker) in
-    (omega (arith, at-out .take-out2 .kept .1 .0, a .long .device), tasks-few (a .fit) (at-task .task-at2 .result) known, omega (arith, few))
+    let long = at-out .take-out2 .kept .1 .0 in
+    (omega (arith, long, a .long .device), tasks-few (a .fit) (at-task .task-at2 .result) known, omega (arith, few))
 
 same-length-9 : tie.Need-same-length-9
 same-length-9 c = search needs

@@ -51,7 +51,8 @@ loop-again : tie.Need-loop-again Inv-loop μ-loop
 loop-again c =
     let l = c .before .before .before .before .loop in
     let x = c .before .before .before .before .before .before .args in
-    (omega (arith, l .inv), simp length-set (l .inv .1), shifted-turn READY (x .n .«ready_at») (l .device) (l .i) (search needs) ∙ l .inv .2)
+    let turn = shifted-turn READY (x .n .«ready_at») (l .device) (l .i) (search needs) in
+    (omega (arith, l .inv), simp length-set (l .inv .1), turn ∙ l .inv .2)
 
 one-taken-requires : tie.Need-one-taken-requires Inv-loop μ-loop
 one-taken-requires c κs = search needs
