@@ -66,10 +66,11 @@ pub fn serve_step(
             let k = first_permitted(n, device, waiter.0);
             if k < n.ready {
                 let task = task_at(n, device, k);
+                let left = take_out(n, device, k);
                 lock::fill(n.ends, tickets, cells, waiter, task);
                 hold(rows, task);
                 go_to(own, HANDING, served);
-                return take_out(n, device, k);
+                return left;
             }
         }
     }

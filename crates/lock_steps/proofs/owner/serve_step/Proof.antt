@@ -104,16 +104,24 @@ task-at-requires c κs =
     let (m, a) = begun served .pre .0 in
     (omega (arith, a .long .device), a .holds .device .ready-at, ready-few a, c .before .if3 .taken)
 
+take-out-requires : tie.Need-take-out-requires
+take-out-requires c κs =
+    let at-if3 = c .before .before .before in
+    let (m, a) = begun (at-if3 .before .before) .pre .0 in
+    (omega (arith, a .long .device), a .holds .device .ready-at, ready-few a, at-if3 .if3 .taken)
+
 fill-requires : tie.Need-fill-requires
 fill-requires c κs =
-    let served = c .before .before .before .before .before .before in
+    let at-out = c .before .before .before .before in
+    let served = at-out .before .before .before .before .before .before in
     let ((m, a), place) = begun served .pre in
     let few = waiter-few a place (waiter served) (waits served m a) in
     (omega (arith, few, a .long .tickets), omega (arith, few, a .long .cells))
 
 hold-requires : tie.Need-hold-requires
 hold-requires c κs =
-    let at-task = c .before .before .before .before .before .before .before .before in
+    let at-out = c .before .before .before .before .before .before .before .before .before .before in
+    let at-task = at-out .before .before in
     let served = at-task .before .before .before .before in
     let (m, a) = begun served .pre .0 in
     let known = task-known a (served .first-permitted .result) (at-task .task-at .result) (at-task .before .before .if3 .taken)
@@ -122,16 +130,8 @@ hold-requires c κs =
 
 go-to-requires-2 : tie.Need-go-to-requires-2
 go-to-requires-2 c κs =
-    let at-fill = c .before .before .before .before .before .before .before .before .before in
-    own-long (begun (at-fill .before .before .before .before .before .before .before) .pre .0 .1)
-
-take-out-requires : tie.Need-take-out-requires
-take-out-requires c κs =
-    let at-fill = c .before .before .before .before .before .before .before .before .before .before .before .before .before in
-    let at-if3 = at-fill .before .before .before .before .before in
-    let served = at-if3 .before .before in
-    let (m, a) = begun served .pre .0 in
-    (omega (arith, a .long .device), a .holds .device .ready-at, ready-few a, at-if3 .if3 .taken)
+    let at-out = c .before .before .before .before .before .before .before .before .before .before .before .before .before .before in
+    own-long (begun (at-out .before .before .before .before .before .before) .pre .0 .1)
 
 same-length-2 : tie.Need-same-length-2
 same-length-2 c = search needs
@@ -150,11 +150,11 @@ same-length-6 c = search needs
 
 returns-2 : tie.Need-returns-2
 returns-2 c m =
-    let at-out = c .before .before in
-    let at-go-to2 = at-out .before .before .before .before in
+    let at-go-to2 = c .before .before in
     let at-hold = at-go-to2 .before .before .before .before in
     let at-fill = at-hold .before .before .before .before .before .before in
-    let at-task = at-fill .before .before .before in
+    let at-out = at-fill .before .before .before .before .before in
+    let at-task = at-out .before .before in
     let at-if3 = at-task .before .before in
     let served = at-if3 .before .before in
     let at-if2 = served .before .before .before .before .before .before in
@@ -274,10 +274,10 @@ serve-step-spec =
     enum-known-front
     first-permitted-requires
     task-at-requires
+    take-out-requires
     fill-requires
     hold-requires
     go-to-requires-2
-    take-out-requires
     same-length-2
     same-length-3
     same-length-4
