@@ -2,6 +2,5 @@ pub mod Reached
 pub mod Picked
 pub mod Sizes
 pub mod AcceptedRuns
-pub mod MaskedFigure
 pub mod Limited
 pub mod Played
