@@ -318,6 +318,10 @@ look-received = Laws.look-received
 pub look-owned : (N : ℕ) (l : Lock) (t w : ℕ) → look N l t w ≡ owns → l .cellTicket w ≢ t
 look-owned = Laws.look-owned
 
+-- a look wins the lock exactly when the ticket's turn has come and the worker's cell doesn't hold it; the worker need not be registered
+pub look-wins : (N : ℕ) (l : Lock) (t w : ℕ) → (look N l t w ≡ owns) ↔ ((turn N l t ≡ true) × (l .cellTicket w ≢ t))
+look-wins = Laws.look-wins
+
 module _ (N : ℕ) (l : Lock) (w : ℕ) where
   -- ---- what each operation is to the lock
 

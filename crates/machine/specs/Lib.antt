@@ -15,4 +15,5 @@ pub mod Played
 pub mod PlayedMasks
 pub mod WholeRuns
 pub mod Givers
+pub mod Leaders
 pub mod Ranges

@@ -1,6 +1,7 @@
 -- Every run is safe: nothing lost, nothing twice, no task before an earlier conflicting one is over.
 pub mod Locked
 pub mod Owners
+pub mod Dues
 pub mod Ends
 pub mod Device
 pub mod Tasked

@@ -1,13 +1,16 @@
--- Where a worker stands with the lock, by its place; who owns it; and where the tasks stand that are ready, held or run.
+-- Where a worker stands with the lock, by its place; who leads it; and where the tasks stand that are ready, held or run.
 use Prim.Native.Nat.{ℕ, _+_}
 use mathlib.Core.Bool.{Bool, true, false}
-use mathlib.Core.Option.{Option}
+use mathlib.Core.Option.{Option, none, some}
 use lib.Dec.{eqb}
 use Rattle.runs.specs.Sums.{sum}
 use Rattle.runs.specs.Counts.{is, count}
+use Rattle.lock.specs.Lock as L
 use Rattle.lock.specs.History as LH
 use Rattle.runs.specs.Searches.{lastBelow}
 use Rattle.tasks.specs.Tasks.{inHand, leftInHand, toAdd}
+use Rattle.machine.specs.declared.Leader.{Leader}
+use Rattle.machine.specs.declared.Leader.the-variants.{Nobody, Owner, Due}
 use Rattle.machine.specs.State.{Setup, Place, idle, trying, registering, looking, draining, serving, handing, leaving, State}
 
 abbrev pub lockStand : Place → LH.Stand
@@ -31,6 +34,34 @@ isOwner LH.serving = true
 -- the owner of the lock; at most one worker is
 unfoldable pub owner : Setup → State → Option ℕ
 owner c s = lastBelow (λ w. isOwner (lockStand (s .place w))) (c .workers)
+
+-- a look that wins the lock: the ticket's turn has come, and the worker's cell doesn't hold it
+abbrev pub wins : L.Look → Bool
+wins L.notYet = false
+wins (L.receives i) = false
+wins L.owns = true
+
+-- worker w's turn has come and it hasn't looked, registered or not: a look with its ticket wins the lock. A worker whose cell holds its
+-- ticket is served, and not due
+abbrev pub isDue : ℕ → L.Lock → ℕ → LH.Stand → Bool
+isDue N l w LH.out = false
+isDue N l w (LH.taken t) = wins (L.look N l t w)
+isDue N l w (LH.waiting t) = wins (L.look N l t w)
+isDue N l w LH.owning = false
+isDue N l w LH.serving = false
+
+-- the worker that is due; at most one is
+unfoldable pub due : Setup → State → Option ℕ
+due c s = lastBelow (λ w. isDue (c .slots) (s .lock) w (lockStand (s .place w))) (c .workers)
+
+-- its owner; where nobody owns, the worker that is due; else nobody
+abbrev pub leads : Option ℕ → Option ℕ → Leader
+leads (some w) due = Owner w
+leads none (some w) = Due w
+leads none none = Nobody
+
+abbrev pub leader : Setup → State → Leader
+leader c s = leads (owner c s) (due c s)
 
 -- 1 where a cell with this ticket and task holds task i with the ticket t
 unfoldable pub boxed : ℕ → ℕ → ℕ → ℕ → ℕ

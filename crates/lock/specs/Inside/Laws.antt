@@ -33,6 +33,13 @@ look-received N l t w j e = let (a, b, c) = rw e at (seen N l t w) in (b, c)
 pub look-owned : (N : ℕ) (l : Lock) (t w : ℕ) → look N l t w ≡ owns → l .cellTicket w ≢ t
 look-owned N l t w e = (rw e at (seen N l t w)) .1
 
+pub look-wins : (N : ℕ) (l : Lock) (t w : ℕ) → (look N l t w ≡ owns) ↔ ((turn N l t ≡ true) × (l .cellTicket w ≢ t))
+unfolding turn
+look-wins N l t w = (
+  λ e. let (a, b) = rw e at (seen N l t w) in (le-leb t (l .wait (t % N)) a, b),
+  λ (a, b). looks-first N l t w (leb-true t (l .wait (t % N)) a) b,
+)
+
 pub holds-one : {x : Stand} {s t : ℕ} → Holds x s → Holds x t → s ≡ t
 holds-one p q = sym (holds-held p) ∙ holds-held q
 
