@@ -61,11 +61,6 @@ lent store w = take (end w - from w) (drop (from w) store)
 abbrev lent-device : List ℕ → ℕ → List ℕ
 lent-device store w = take (device-end w - from w) (drop (from w) store)
 
--- a number of a share, where the store has it
-pub share-at : (store : List ℕ) (w i : ℕ) → i < shareSize → getD (share store w) i 0 ≡ getD store (from w + i) 0
-unfolding share
-share-at store w i small = getD-take shareSize (drop (from w) store) i 0 small ∙ getD-drop (from w) store i 0
-
 -- the shares, but z for the device's part of worker w
 abbrev pub withStation : (ℕ → List ℕ) → ℕ → List ℕ → ℕ → List ℕ
 withStation shares w z = upd shares w (z ++ part (shares w))

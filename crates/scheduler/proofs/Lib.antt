@@ -1,4 +1,3 @@
 pub mod Lending
 pub mod Draining
 pub mod Picking
-pub mod Owners

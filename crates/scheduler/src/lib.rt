@@ -46,8 +46,6 @@ use steps::push_step;
 use steps::station::drain;
 use steps::station::go;
 
-pub mod owner; // owner.rt: who owns the lock
-
 // The numbers of a run in which no pick has been taken. Law: `starts`.
 pub fn fresh(ends: Ends, workers: u64, slots: u64, capacity: u64, tasks: u64) -> Counts
     ensures { λ r. ⌜ r ≡ freshCounts ends workers slots capacity tasks ⌝ }

@@ -1,5 +1,5 @@
--- The two parts of a share, lent and given back.
-use Prim.Native.Nat.{ℕ, _+_, _<_}
+-- A share in the store, and its two parts, lent and given back.
+use Prim.Native.Nat.{ℕ, _+_, _*_, _<_}
 use native.Mathlib.Omega.{arith}
 use mathlib.Core.Path.{_≡_, sym, _∙_}
 use mathlib.Core.List.{List, [], _++_, append-nil}
@@ -7,7 +7,13 @@ use lib.ListN.{length, getD, take, drop, length-take, length-drop, drop-of-lengt
 use lib.Seq.{take-all, take-at, drop-at, getD-take, getD-drop}
 use Rattle.runs.specs.Update.{upd, map-upd}
 use Rattle.steps.specs.Layout.{shareSize, stationSize, partSize}
-use Rattle.steps.specs.Memory.{station, part}
+use Rattle.steps.specs.Memory.{share, station, part}
+
+-- a number of a share, where the store has it
+pub share-at : (store : List ℕ) (w i : ℕ) → i < shareSize → getD (share store w) i 0 ≡ getD store (w * shareSize + i) 0
+unfolding share
+share-at store w i small =
+    getD-take shareSize (drop (w * shareSize) store) i 0 small ∙ getD-drop (w * shareSize) store i 0
 
 pub station-at : (own : List ℕ) (k : ℕ) → k < stationSize → getD (station own) k 0 ≡ getD own k 0
 station-at own k l = getD-take stationSize own k 0 l

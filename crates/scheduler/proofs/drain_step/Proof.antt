@@ -7,8 +7,8 @@ use lib.ListN.{length, getD}
 use lib.Seq.{getD-set-other}
 use Rattle.steps.specs.Layout.{shareSize, numberAt, queuedAt, slotAt, mostWorkers}
 use Rattle.steps.specs.Memory.{share, station}
-use Rattle.steps.proofs.Parts.{station-long}
-use Rattle.scheduler.proofs.Lending.{share-at, share-length, station-lent, second-lent, both-shares, both-later}
+use Rattle.steps.proofs.Parts.{share-at, station-long}
+use Rattle.scheduler.proofs.Lending.{share-length, station-lent, second-lent, both-shares, both-later}
 use Rattle.scheduler.proofs.Draining.{drained-behind, drained-below, drained-known, drained-few, drained-room}
 use Rattle.scheduler.proofs.Draining.{emptied-stations, emptied-long, drain-acts}
 use borrow.Author.Needs.{needs}

@@ -7,7 +7,8 @@ use Rattle.machine.specs.State.{picked}
 use Rattle.steps.specs.Layout.{placeAt}
 use Rattle.steps.specs.Memory.{share, Memory, withCounts, Able}
 use Rattle.scheduler.specs.Lent.{memory}
-use Rattle.scheduler.proofs.Lending.{share-at, share-lent, returned-shares, returned-later}
+use Rattle.steps.proofs.Parts.{share-at}
+use Rattle.scheduler.proofs.Lending.{share-lent, returned-shares, returned-later}
 use Rattle.scheduler.proofs.Picking.{workers-few, own-place, drains-there, drains-not}
 use Rattle.scheduler.proofs.Picking.{counted, counted-long, counted-holds, acted-holds}
 use borrow.Author.Needs.{needs}

@@ -1,20 +1,14 @@
--- `owner::find_owner` meets its contract.
-use Prim.Native.Nat.{ℕ, _≤_}
-use mathlib.Core.Path.{_≡_, refl, ap, _∙_}
-use mathlib.Core.List.{List}
+-- `find_owner` meets its contract.
+use Prim.Native.Nat.{_≤_}
+use mathlib.Core.Path.{_≡_, refl}
 use native.Mathlib.Omega.{arith}
 use borrow.Author.Needs.{needs}
 use borrow.Author.Tests.{le-leb, lt-leb}
 use Rattle.runs.specs.Searches.{lastBelow}
-use Rattle.memory.specs.Codes.{optionCode}
 use Rattle.memory.specs.SearchLaws.{search-found, search-on, search-none}
-use Rattle.machine.specs.State.{Setup, State}
-use Rattle.machine.specs.Whereabouts.{owner}
-use Rattle.steps.specs.Memory.{share, Memory, Holds}
-use Rattle.scheduler.specs.Owners.{ownsIn}
-use Rattle.scheduler.proofs.Owners.{owner-is}
-use Rattle.scheduler.proofs.owner.find_owner.Statement.{statement}
-use Rattle.scheduler.proofs.owner.find_owner.Tie as tie
+use Rattle.leader.specs.Numbers.{ownsIn}
+use Rattle.leader.proofs.find_owner.Statement.{statement}
+use Rattle.leader.proofs.find_owner.Tie as tie
 
 abbrev Inv-loop : tie.InvT-loop
 Inv-loop store workers w₀ w = (w ≤ workers) × (lastBelow (ownsIn store) w ≡ lastBelow (ownsIn store) workers)
@@ -40,19 +34,12 @@ mul-place c = omega (arith, c .before .before .pre, c .before .loop .inv)
 shared-slice-read-place : tie.Need-shared-slice-read-place Inv-loop μ-loop
 shared-slice-read-place c = omega (arith, c .before .before .before .pre, c .before .before .loop .inv)
 
--- what the numbers say is so of the state that they hold
-told : (store : List ℕ) (workers r : ℕ) → r ≡ optionCode (lastBelow (ownsIn store) workers)
-    → (r ≡ optionCode (lastBelow (ownsIn store) workers))
-    × ((c : Setup) (m : Memory) (s : State) → Holds c m (share store) s → workers ≡ c .workers → r ≡ optionCode (owner c s))
-told store workers r e = (e, λ c m s h same. e ∙ ap optionCode (owner-is store workers c m s h same))
-
 returns : tie.Need-returns Inv-loop μ-loop
 returns c =
     let at = c .before .before .before .loop in
     let start = c .before .before .before .before in
-    told (start .args .store .now) (start .args .workers) (at .w)
-    (search-found (ownsIn (start .args .store .now)) (start .args .workers) (at .w) (c .before .before .loop-test .taken)
-    (le-leb _ _ (c .if1 .taken)) (at .inv .1))
+    search-found (ownsIn (start .args .store .now)) (start .args .workers) (at .w) (c .before .before .loop-test .taken)
+    (le-leb _ _ (c .if1 .taken)) (at .inv .1)
 
 sub-w : tie.Need-sub-w Inv-loop μ-loop
 sub-w c = search needs
@@ -73,8 +60,7 @@ returns-2 : tie.Need-returns-2 Inv-loop μ-loop
 returns-2 c =
     let at = c .before .loop in
     let start = c .before .before in
-    told (start .args .store .now) (start .args .workers) 0
-    (search-none (ownsIn (start .args .store .now)) (start .args .workers) (at .w) (c .loop-test .left) (at .inv .1))
+    search-none (ownsIn (start .args .store .now)) (start .args .workers) (at .w) (c .loop-test .left) (at .inv .1)
 
 pub find-owner-spec : {M : Type 1} → statement M
 find-owner-spec =
