@@ -8,12 +8,12 @@ use Rattle.plan.specs.Plan.{maskLast}
 use Rattle.plan.specs.Line.{repeats, endsUnmasked, accessOf, lineBy, lineOfFields}
 use Rattle.plan.specs.Reading.{firstRefusal, readLines, reading}
 use Rattle.plan.specs.Orders.{seededPicks, picksOfAll}
-use Rattle.machine.specs.Whereabouts.{owner}
+use Rattle.machine.specs.Whereabouts.{owner, due}
 use Rattle.machine.specs.Computing.{computing}
 use Rattle.report.specs.Report.{taskLines, report}
 use Rattle.bench.specs.Answer.{printedFor, printed}
 
 unfoldable pub computed : List ℕ → List ℕ
 unfolding bytes every allOf split valueAfter numberOf digitsBefore decimal line accessOf lineBy lineOfFields repeats
-    maskLast endsUnmasked sum firstRefusal readLines reading seededPicks picksOfAll computing owner taskLines report printedFor
+    maskLast endsUnmasked sum firstRefusal readLines reading seededPicks picksOfAll computing owner due taskLines report printedFor
 computed text = printed text

@@ -87,7 +87,7 @@ withSizes =
     ∷ prints "W\t32\t64\t8\n" "E\tfinished\t0\t0\nL\t64\t65\t-\n"
     ∷ prints "W\t2\t2\t1\nT\ta\t0\nP\t1\t3\nP\t0\t5\nP\t1\t4\nP\t0\t2\n" "E\tfinished\t14\t2\nT\t0\ta\tover\t0\t13\t14\t1\nL\t4\t4\t1\n"
     ∷ prints "W\t1\t1\t1\nT\ta\t0\nT\tb\t0\nR\t7\n" "E\topen\t7\t2\nT\t0\ta\tready\t-\t-\t-\t-\nT\t1\tb\tready\t-\t-\t-\t-\nL\t2\t2\t0\n"
-    ∷ prints "W\t1\nT\ta\t0\nT\tb\t0\nR\t7\n" "E\topen\t7\t2\nT\t0\ta\tready\t-\t-\t-\t-\nT\t1\tb\tready\t-\t-\t-\t-\nL\t65\t65\t-\n"
+    ∷ prints "W\t1\nT\ta\t0\nT\tb\t0\nR\t7\n" "E\topen\t7\t2\nT\t0\ta\tready\t-\t-\t-\t-\nT\t1\tb\tready\t-\t-\t-\t-\nL\t65\t65\t>0\n"
     ∷ []
 
 pub sizes-shown : AllHold withSizes
@@ -110,3 +110,19 @@ withMasks =
 pub masks-shown : AllHold withMasks
 unfolding computed
 masks-shown = (refl, (refl, (refl, (refl, (refl, (refl, tt))))))
+
+-- free or spoken for: worker 1 has a ticket whose turn has come, and isn't registered; it is; the listing, worker 0 being served: worker 1
+-- leaves, and the lock is free though worker 0 has yet to look; worker 2 has the next ticket, and is due though worker 0 has yet to look; and
+-- a finished run keeps who is due
+abbrev pub spokenFor : List Example
+spokenFor =
+    prints "W\t2\nT\ta\t0\nP\t1\t1\n" "E\topen\t1\t2\nT\t0\ta\tnew\t-\t-\t-\t-\nL\t65\t65\t>1\n"
+    ∷ prints "W\t2\nT\ta\t0\nP\t1\t2\n" "E\topen\t2\t2\nT\t0\ta\tnew\t-\t-\t-\t-\nL\t65\t65\t>1\n"
+    ∷ prints "W\t2\nT\ta\t0\nP\t1\t3\nP\t0\t5\nP\t1\t6\n" "E\topen\t14\t2\nT\t0\ta\theld\t-\t-\t-\t1\nL\t66\t67\t-\n"
+    ∷ prints "W\t3\nT\ta\t0\nP\t1\t3\nP\t0\t5\nP\t2\t1\nP\t1\t7\n" "E\topen\t16\t3\nT\t0\ta\theld\t-\t-\t-\t1\nL\t67\t67\t>2\n"
+    ∷ prints "W\t2\nT\ta\t0\nP\t1\t3\nP\t0\t4\nP\t1\t9\n" "E\tfinished\t12\t2\nT\t0\ta\tover\t1\t10\t12\t1\nL\t66\t66\t>0\n"
+    ∷ []
+
+pub spoken-for-shown : AllHold spokenFor
+unfolding computed
+spoken-for-shown = (refl, (refl, (refl, (refl, (refl, tt)))))

@@ -5,6 +5,7 @@ pub mod Computed
 pub mod Leaves
 pub mod Examples
 pub mod OwnAnswer
+pub mod OwnLock
 pub mod NoPicks
 pub mod Unread
 pub mod Moved

@@ -26,6 +26,7 @@ use Rattle.machine.specs.Safety.Invariant.{Playable}
 use Rattle.machine.specs.Figures.{waitingFigure, finishingFigure}
 use Rattle.machine.specs.WholeRuns.{WholeRun, whole-runs}
 use Rattle.machine.specs.Givers.{Givers, givers}
+use Rattle.machine.specs.Leaders.{Leaders, leaders}
 use Rattle.orders.specs.Reached.{setupOf, reached}
 use Rattle.orders.specs.Picked.{picks-below}
 use Rattle.orders.specs.Sizes.{picks-few}
@@ -74,6 +75,13 @@ module _ (text : List ℕ) (p : Plan) (e : reading text ≡ accepted p) where
 
   pub own-givers : (limit i : ℕ) → Givers (setupOf p) (picksUpTo limit p) i
   own-givers limit = accepted-givers (picksUpTo limit p) (own-picks limit)
+
+  -- who leads the lock, likewise
+  pub accepted-leaders : (ws : List ℕ) → Picks (p .workers) ws → Leaders (setupOf p) ws
+  accepted-leaders ws h = leaders (setupOf p) playable ws h
+
+  pub own-leaders : (limit : ℕ) → Leaders (setupOf p) (picksUpTo limit p)
+  own-leaders limit = accepted-leaders (picksUpTo limit p) (own-picks limit)
 
   -- without M lines a run is what it was before there were masks, pick for pick
   pub own-unmasked : anyMasked (p .tasks) ≡ false → (limit : ℕ) → reached p limit ≡ afterBefore (setupOf p) (picksUpTo limit p)

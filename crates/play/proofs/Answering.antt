@@ -9,13 +9,13 @@ use Rattle.refusals.specs.declared.Refusal.the-variants.{OutputTooShort}
 use Rattle.machine.specs.State.{Setup, State}
 use Rattle.machine.specs.Step.{finished}
 use Rattle.machine.specs.Ranges.{Sized}
-use Rattle.machine.specs.Whereabouts.{owner}
+use Rattle.machine.specs.Whereabouts.{leader}
 use Rattle.memory.specs.Layout as layout
-use Rattle.memory.specs.Codes.{optionCode}
 use Rattle.memory.specs.Labels.{Labels}
 use Rattle.steps.specs.declared.Counts.{Counts}
 use Rattle.steps.specs.Layout.{GIVERS, MASKS}
-use Rattle.steps.specs.Memory.{share, Memory, Masked, withCounts, Holds}
+use Rattle.steps.specs.Memory.{share, Memory, Masked, Holds}
+use Rattle.lock_steps.specs.Lent.{withSeen}
 use Rattle.report.specs.declared.Summary.{Summary}
 use Rattle.report.specs.Report.{report}
 use Rattle.report.specs.Shown.{Shown}
@@ -43,23 +43,24 @@ pub masks-are : (c : Setup) (device : List ℕ) → Sized c → Masked (c .worke
 masks-are c device sized h =
     record { few = sized .workers; formed = sized .masks; are = λ i l. from-at MASKS device i ∙ h i l }
 
--- what a summary says by the numbers of a run, by the store and by the masks
-abbrev pub Summed : Counts → (store masks : List ℕ) → Summary → Type 0
-Summed n store masks r =
+-- what a summary says by the numbers of a run, by the store, by what a look compares and by the masks
+abbrev pub Summed : Counts → (store wait tickets cells masks : List ℕ) → Summary → Type 0
+Summed n store wait tickets cells masks r =
     ((r .picks ≡ n .picks) × (r .head ≡ n .ends .head .0) × (r .tail ≡ n .ends .tail .0) × (r .tasks ≡ n .tally .tasks)
     × (r .permitted ≡ onesOf masks (n .tally .tasks)))
-    × ((m : Memory) (c : Setup) (s : State) → Holds c (withCounts m n) (share store) s
-    → (r .finished ≡ finished c s) × (r .owner ≡ optionCode (owner c s)))
+    × ((m : Memory) (c : Setup) (s : State) → Holds c (withSeen m n wait tickets cells (m .rows)) (share store) s
+    → (r .finished ≡ finished c s) × (r .leader ≡ leader c s))
 
-module _ (n : Counts) (store device : List ℕ) (r : Summary) (summed : Summed n store (from MASKS device) r) where
+module _ (n : Counts) (store wait tickets cells device : List ℕ) (r : Summary)
+    (summed : Summed n store wait tickets cells (from MASKS device) r) where
   module _ (m : Memory) (c : Setup) (s : State) (rows text places : List ℕ) (sized : Sized c) (labels : Labels (c .tasks) text places)
-      (holds : Holds c (withShown m n device rows) (share store) s) where
+      (holds : Holds c (withShown m n wait tickets cells device rows) (share store) s) where
     tasks-counted : r .tasks ≡ length (c .tasks)
     tasks-counted = summed .0 .3 ∙ holds .tasks .tasks
 
     pub shown : Shown c s r rows places (from GIVERS device) text
     shown =
-        let (f, o) = summed .1 (withShown m n device rows) c s holds in
+        let (f, l) = summed .1 (withShown m n wait tickets cells device rows) c s holds in
         record {
           finished = f;
           picks = summed .0 .0 ∙ holds .picks;
@@ -67,7 +68,7 @@ module _ (n : Counts) (store device : List ℕ) (r : Summary) (summed : Summed n
               ∙ total-ones c (from MASKS device) (masks-are c device sized (holds .device .masks));
           head = summed .0 .1 ∙ ap (λ l. l .head) (holds .lock);
           tail = summed .0 .2 ∙ ap (λ l. l .tail) (holds .lock);
-          owner = o;
+          leader = l;
           count = tasks-counted;
           rows = holds .tasks .task-rows;
           givers = λ i l. from-at GIVERS device i ∙ holds .device .givers i l;

@@ -5,6 +5,6 @@ use Rattle.steps.specs.Memory.{Memory}
 use Rattle.steps.specs.declared.Counts.{Counts}
 use Rattle.scheduler.specs.Lent.{memory}
 
--- the numbers, the device's array and the tasks' rows
-abbrev pub withShown : Memory → Counts → (device rows : List ℕ) → Memory
-withShown m n device rows = memory n (m .wait) (m .registrations) (m .tickets) (m .cells) device rows (m .accesses)
+-- the numbers, what a look compares, the device's array and the tasks' rows
+abbrev pub withShown : Memory → Counts → (wait tickets cells device rows : List ℕ) → Memory
+withShown m n wait tickets cells device rows = memory n wait (m .registrations) tickets cells device rows (m .accesses)

@@ -1,6 +1,6 @@
--- No report of an accepted plan is longer than 14,438 bytes.
+-- No report of an accepted plan is longer than 14,439 bytes.
 use Prim.Native.Nat.{ℕ, _^_, _≤_, _<_}
-use mathlib.Core.Path.{_≡_}
+use mathlib.Core.Path.{_≡_, refl}
 use mathlib.Core.List.{List}
 use native.Mathlib.Omega.{arith}
 use lib.ListN.{length}
@@ -13,11 +13,13 @@ use Rattle.plan.specs.Orders.{picksUpTo}
 use Rattle.plan.specs.Accepted.{accepted-well-formed}
 use Rattle.tasks.specs.Accesses.{taskAt}
 use Rattle.machine.specs.Safety.{noted}
-use Rattle.machine.specs.Safety.Owners.{owner-below}
+use Rattle.machine.specs.declared.Leader.{Leader}
+use Rattle.machine.specs.declared.Leader.the-variants.{Nobody, Owner, Due}
+use Rattle.machine.specs.Whereabouts.{leader}
 use Rattle.report.specs.Report.{totalPermitted}
-use Rattle.report.specs.Sizes.{longest, Small, report-short}
+use Rattle.report.specs.Sizes.{longest, LeaderBelow, Small, report-short}
 use Rattle.orders.specs.Reached.{setupOf, reached}
-use Rattle.orders.specs.AcceptedRuns.{playable, own-picks, own-givers, numbers-small}
+use Rattle.orders.specs.AcceptedRuns.{playable, own-picks, own-givers, own-leaders, numbers-small}
 use Rattle.play.specs.Outcome.{reportOf}
 
 module _ (text : List ℕ) (p : Plan) (e : reading text ≡ accepted p) (limit : ℕ) where
@@ -39,6 +41,13 @@ module _ (text : List ℕ) (p : Plan) (e : reading text ≡ accepted p) (limit :
         formed .tasks-few,
       )
 
+  -- who leads is a worker
+  leader-below : (x : Leader) → leader (setupOf p) (reached p limit) ≡ x → LeaderBelow (2 ^ 64) x
+  leader-below Nobody h = tt
+  leader-below (Owner w) h =
+      omega (arith, own-leaders text p e limit .owner w .0 h .0, accepted-well-formed text p e .workers-few)
+  leader-below (Due w) h = omega (arith, own-leaders text p e limit .due w .0 h .0, accepted-well-formed text p e .workers-few)
+
   pub small : Small (setupOf p) (reached p limit)
   small =
       let formed = accepted-well-formed text p e in
@@ -52,7 +61,7 @@ module _ (text : List ℕ) (p : Plan) (e : reading text ≡ accepted p) (limit :
         permitted = total-few;
         head = omega arith;
         tail = omega arith;
-        owner = λ w o. omega (arith, owner-below (setupOf p) (reached p limit) w o);
+        leader = leader-below (leader (setupOf p) (reached p limit)) refl;
         runner = λ i l. omega (arith, (notes i) .0);
         receipt = λ i l. omega (arith, (notes i) .1);
         ending = λ i l. omega (arith, (notes i) .2);

@@ -10,13 +10,13 @@ ghost use Rattle.plan.specs.Plan.{Plan};
 ghost use Rattle.plan.specs.Reading.{reading, accepted};
 ghost use Rattle.machine.specs.State.{Setup, State, start};
 ghost use Rattle.machine.specs.Step.{finished};
-ghost use Rattle.machine.specs.Whereabouts.{owner};
+ghost use Rattle.machine.specs.Whereabouts.{leader};
 ghost use Rattle.machine.specs.Ranges.{Sized};
 ghost use Rattle.memory.specs.Layout as layout;
-ghost use Rattle.memory.specs.Codes.{optionCode};
 ghost use Rattle.memory.specs.Labels.{Labels};
 ghost use Rattle.steps.specs.Layout.{mostWorkers, mostSlots, sharesSize, deviceSize};
-ghost use Rattle.steps.specs.Memory.{share, Memory, Given, withCounts, Holds};
+ghost use Rattle.steps.specs.Memory.{share, Memory, Given, Holds};
+ghost use Rattle.lock_steps.specs.Lent.{withSeen};
 ghost use Rattle.scheduler.specs.Lent.{memory};
 ghost use Rattle.report.specs.Report.{report};
 ghost use Rattle.report.specs.Shown.{Shown};
@@ -26,6 +26,7 @@ ghost use Rattle.orders.specs.Reached.{setupOf, reached};
 ghost use Rattle.play.specs.Outcome.{reportOf, written};
 ghost use Rattle.play.specs.Lent.{withShown};
 ghost use Rattle.play.specs.Loaded.{Loaded, LoadedTasks};
+use leader::find_leader;
 use memory::layout;
 use orders::play_orders;
 use plan::form::Form;
@@ -38,7 +39,6 @@ use report::put_report;
 use report::total_permitted;
 use scheduler::fresh;
 use scheduler::is_finished;
-use scheduler::owner::find_owner;
 use steps::Counts;
 use steps::layout::DEVICE;
 use steps::layout::GIVERS;
@@ -48,7 +48,7 @@ use tables::lay_out;
 use tables::mask::lay_masks;
 
 // No report is longer: `accepted-short`.
-const LONGEST: usize = 14438;
+const LONGEST: usize = 14439;
 
 // What a run gives: the picks taken and the report's length, or a refusal and its line, which is 0 if it is not the plan's.
 pub enum Answer {
@@ -57,14 +57,23 @@ pub enum Answer {
 }
 
 // What the report says of a run besides its tasks; by task, `masks` has its mask.
-fn summary_of(n: Counts, store: &[u64], masks: &[u64]) -> Summary
-    requires { ⌜ (sharesSize ≤ length (now store)) × (n .workers ≤ mostWorkers) ⌝ }
+fn summary_of(
+    n: Counts,
+    store: &[u64],
+    wait: &[u64],
+    tickets: &[u64],
+    cells: &[u64],
+    masks: &[u64],
+) -> Summary
+    requires { ⌜ (sharesSize ≤ length (now store)) × (n .workers ≤ mostWorkers) × (0 < n .slots) × (n .slots ≤ length (now wait))
+        × (mostWorkers ≤ length (now tickets)) × (mostWorkers ≤ length (now cells)) ⌝ }
     requires { ⌜ (layout.mostTasks ≤ length (now masks)) × (n .tally .tasks ≤ layout.mostTasks)
         × ((i : ℕ) → i < n .tally .tasks → getD (now masks) i 0 < 2 ^ 32) ⌝ }
     ensures numbers { λ r. ⌜ (r .picks ≡ n .picks) × (r .head ≡ n .ends .head .0) × (r .tail ≡ n .ends .tail .0)
         × (r .tasks ≡ n .tally .tasks) × (r .permitted ≡ onesOf (now (masks .entry)) (n .tally .tasks)) ⌝ }
-    ensures found { λ r. ⌜ ((m : Memory) (c : Setup) (s : State) → Holds c (withCounts m n) (share (now (store .entry))) s →
-        (r .finished ≡ finished c s) × (r .owner ≡ optionCode (owner c s))) ⌝ }
+    ensures found { λ r. ⌜ ((m : Memory) (c : Setup) (s : State) →
+        Holds c (withSeen m n (now (wait .entry)) (now (tickets .entry)) (now (cells .entry)) (m .rows)) (share (now (store .entry))) s →
+        (r .finished ≡ finished c s) × (r .leader ≡ leader c s)) ⌝ }
 {
     let head = n.ends.head;
     let tail = n.ends.tail;
@@ -74,7 +83,7 @@ fn summary_of(n: Counts, store: &[u64], masks: &[u64]) -> Summary
         permitted: total_permitted(masks, n.tally.tasks as usize),
         head: head.0,
         tail: tail.0,
-        owner: find_owner(store, n.workers),
+        leader: find_leader(n, store, wait, tickets, cells),
         tasks: n.tally.tasks,
     }
 }
@@ -106,23 +115,28 @@ fn has_room(
 fn answer_of(
     text: &[u8],
     n: Counts,
+    wait: &[u64],
+    tickets: &[u64],
+    cells: &[u64],
     device: &[u64],
     rows: &[u64],
     labels: &[u64],
     store: &[u64],
     output: &mut [u8],
 ) -> Answer
-    requires { ⌜ (sharesSize ≤ length (now store)) × (length (now device) ≡ deviceSize) × (length (now rows) ≡ layout.taskRows)
+    requires { ⌜ (sharesSize ≤ length (now store)) × (length (now wait) ≡ mostSlots) × (length (now tickets) ≡ mostWorkers)
+        × (length (now cells) ≡ mostWorkers) × (length (now device) ≡ deviceSize) × (length (now rows) ≡ layout.taskRows)
         × (length (now labels) ≡ layout.labelRows) ⌝ }
     requires { ⌜ ((m : Memory) × (c : Setup) × (s : State) × Sized c × Small c s × Labels (c .tasks) (now text) (now labels)
-        × Holds c (withShown m n (now device) (now rows)) (share (now store)) s) ⌝ }
+        × Holds c (withShown m n (now wait) (now tickets) (now cells) (now device) (now rows)) (share (now store)) s) ⌝ }
     ensures { λ r. ⌜ ((m : Memory) (c : Setup) (s : State) (left : List ℕ) → Sized c → Small c s →
         Labels (c .tasks) (now (text .entry)) (now (labels .entry)) →
-        Holds c (withShown m n (now (device .entry)) (now (rows .entry))) (share (now (store .entry))) s →
+        Holds c (withShown m n (now (wait .entry)) (now (tickets .entry)) (now (cells .entry)) (now (device .entry)) (now (rows .entry)))
+        (share (now (store .entry))) s →
         (r ≡ (written left (now (output .entry)) (s .picks) (report c s)) .answer)
         × (now (output .exit) ≡ (written left (now (output .entry)) (s .picks) (report c s)) .output)) ⌝ }
 {
-    let summary = summary_of(n, store, &device[MASKS..]);
+    let summary = summary_of(n, store, wait, tickets, cells, &device[MASKS..]);
     let givers = &device[GIVERS..];
     if has_room(summary, text, rows, labels, givers, output.len()) {
         let length = put_report(summary, text, rows, labels, givers, output);
@@ -227,7 +241,18 @@ fn run_in(
         accesses,
         store,
     );
-    answer_of(text, n, device, rows, labels, store, output)
+    answer_of(
+        text,
+        n,
+        wait,
+        tickets,
+        cells,
+        device,
+        rows,
+        labels,
+        store,
+        output,
+    )
 }
 
 // Runs a plan that was read, from a store whose shares are all 0.

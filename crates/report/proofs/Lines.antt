@@ -15,7 +15,7 @@ use Rattle.tasks.specs.Accesses.{taskAt}
 use Rattle.tasks.specs.Tasks.{Status}
 use Rattle.machine.specs.State.{Setup, State}
 use Rattle.machine.specs.Step.{finished}
-use Rattle.machine.specs.Whereabouts.{owner}
+use Rattle.machine.specs.Whereabouts.{leader}
 use Rattle.memory.specs.Layout as layout
 use Rattle.memory.specs.Codes.{statusCode, optionCode}
 use Rattle.memory.specs.Rows.{outcomeAt}
@@ -89,8 +89,7 @@ module _ {c : Setup} {s : State} {summary : Summary} {table places given bs : Li
   pub wrote-report : (i : ℕ) {out mid after last : List ℕ} {at next end : ℕ}
       → Wrote out 0 (fields (outcomeFields (summary .finished) (summary .picks) (summary .permitted))) at mid
       → Wrote mid at (plain (taskLines c s 0 (take i (c .tasks)))) next after → i ≡ summary .tasks
-      → ((o : Option ℕ) → optionCode o ≡ summary .owner
-      → Wrote after next (fields (lockFields (summary .head) (summary .tail) o)) end last)
+      → Wrote after next (fields (lockFields (summary .head) (summary .tail) (summary .leader))) end last
       → Wrote out 0 (plain (report c s)) end last
   unfolding report
   wrote-report i {out} {mid} {after} {last} {at} {next} {end} u v e w =
@@ -98,7 +97,7 @@ module _ {c : Setup} {s : State} {summary : Summary} {table places given bs : Li
       let first : Wrote out 0 (fields (outcomeFields (finished c s) (s .picks) (totalPermitted c))) at mid =
       rw (shown .finished, shown .picks, shown .permitted) at u in
       let lines : Wrote mid at (plain (taskLines c s 0 (c .tasks))) next after = rw (e, all) at v in
-      let lock : Wrote after next (fields (lockFields (s .lock .head) (s .lock .tail) (owner c s))) end last =
-      rw (shown .head, shown .tail) at (w (owner c s) (sym (shown .owner))) in
+      let lock : Wrote after next (fields (lockFields (s .lock .head) (s .lock .tail) (leader c s))) end last =
+      rw (shown .head, shown .tail, shown .leader) at w in
       let both : Wrote out 0 (plain (outcomeLine c s ++ taskLines c s 0 (c .tasks))) next after = wrote-then first refl lines in
       wrote-then both refl lock

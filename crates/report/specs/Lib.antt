@@ -1,4 +1,5 @@
 pub mod Report
+pub mod Apart
 pub mod Totals
 pub mod Shown
 pub mod Sizes

@@ -7,14 +7,16 @@ use mathlib.Core.Option.{Option, none, some}
 use lib.ListN.{length}
 use lib.Dec.{leb}
 use Rattle.runs.specs.Sums.{sum}
-use Rattle.text.specs.Text.{bytes, digitsBefore, decimal, numberIf, numberOrNone, line}
+use Rattle.text.specs.Text.{bytes, digitsBefore, decimal, unknown, numberIf, numberOrNone, line}
 use Rattle.plan.specs.Plan.{Task}
 use Rattle.plan.specs.Permits.{permitted}
 use Rattle.tasks.specs.Accesses.{taskAt}
 use Rattle.tasks.specs.Tasks.{Status, new, waiting, ready, held, running, over, stage}
 use Rattle.machine.specs.State.{Setup, State}
 use Rattle.machine.specs.Step.{finished}
-use Rattle.machine.specs.Whereabouts.{owner}
+use Rattle.machine.specs.declared.Leader.{Leader}
+use Rattle.machine.specs.declared.Leader.the-variants.{Nobody, Owner, Due}
+use Rattle.machine.specs.Whereabouts.{leader}
 
 abbrev pub outcomeName : Bool → List ℕ
 outcomeName finished = cond finished (bytes "finished") (bytes "open")
@@ -51,8 +53,21 @@ pub given-shown : (line (taskFields 0 (bytes "a") held 0 0 0 none) ≡ bytes "T\
 unfolding bytes digitsBefore decimal line
 given-shown = (refl, refl, refl)
 
-abbrev pub lockFields : ℕ → ℕ → Option ℕ → List (List ℕ)
-lockFields head tail owner = bytes "L" ∷ decimal head ∷ decimal tail ∷ numberOrNone owner ∷ []
+-- who leads the lock: the owner's number, `>` and the number of the worker that is due, or `-` where the lock is free
+abbrev pub leaderField : Leader → List ℕ
+leaderField Nobody = unknown
+leaderField (Owner w) = decimal w
+leaderField (Due w) = bytes ">" ++ decimal w
+
+abbrev pub lockFields : ℕ → ℕ → Leader → List (List ℕ)
+lockFields head tail leader = bytes "L" ∷ decimal head ∷ decimal tail ∷ leaderField leader ∷ []
+
+-- computed: a lock that is free, one that worker 1 owns, and one that is spoken for by worker 12
+pub leader-shown : (line (lockFields 64 65 Nobody) ≡ bytes "L\t64\t65\t-\n")
+    × (line (lockFields 66 66 (Owner 1)) ≡ bytes "L\t66\t66\t1\n")
+    × (line (lockFields 70 68 (Due 12)) ≡ bytes "L\t70\t68\t>12\n")
+unfolding bytes digitsBefore decimal line
+leader-shown = (refl, refl, refl)
 
 -- ---- the lines
 
@@ -74,7 +89,7 @@ module _ (c : Setup) (s : State) where
   taskLines i (t ∷ ts) = taskLine i t ++ taskLines (suc i) ts
 
   abbrev pub lockLine : List ℕ
-  lockLine = line (lockFields (s .lock .head) (s .lock .tail) (owner c s))
+  lockLine = line (lockFields (s .lock .head) (s .lock .tail) (leader c s))
 
   unfoldable pub report : List ℕ
   report = outcomeLine ++ taskLines 0 (c .tasks) ++ lockLine

@@ -9,7 +9,7 @@ use Rattle.machine.specs.Step.{finished}
 use Rattle.memory.specs.Codes.{statusCode, optionCode}
 use Rattle.memory.specs.Rows.{TaskRows, outcomeAt}
 use Rattle.memory.specs.Labels.{labelAt, labelIn, Labels}
-use Rattle.machine.specs.Whereabouts.{owner}
+use Rattle.machine.specs.Whereabouts.{leader}
 use Rattle.report.specs.Report.{taskFields, totalPermitted}
 use Rattle.report.specs.declared.Summary.{Summary}
 
@@ -38,7 +38,7 @@ pub record Shown (c : Setup) (s : State) (summary : Summary) (table places given
   pub permitted : summary .permitted ≡ totalPermitted c
   pub head : summary .head ≡ s .lock .head
   pub tail : summary .tail ≡ s .lock .tail
-  pub owner : summary .owner ≡ optionCode (owner c s)
+  pub leader : summary .leader ≡ leader c s
   pub count : summary .tasks ≡ length (c .tasks)
   pub rows : TaskRows (c .tasks) table (s .tasks .count) (s .tasks .status) (s .tasks .runner) (s .tasks .receipt) (s .tasks .ending)
   pub labels : Labels (c .tasks) text places

@@ -13,8 +13,10 @@ use Rattle.tasks.specs.Tasks.{Status, new, waiting, ready, held, running, over}
 use Rattle.machine.specs.State.{Setup, State}
 use Rattle.machine.specs.Step.{finished}
 use Rattle.memory.specs.Layout as layout
-use Rattle.machine.specs.Whereabouts.{owner}
-use Rattle.report.specs.Report.{outcomeName, statusName, knownFrom, totalPermitted, outcomeLine, taskLine, taskLines, lockLine, report}
+use Rattle.machine.specs.declared.Leader.{Leader}
+use Rattle.machine.specs.declared.Leader.the-variants.{Nobody, Owner, Due}
+use Rattle.machine.specs.Whereabouts.{leader}
+use Rattle.report.specs.Report.{outcomeName, statusName, knownFrom, leaderField, totalPermitted, outcomeLine, taskLine, taskLines, lockLine, report}
 use Rattle.text.specs.Decimals.{decimal-short, decimal-20, numberSize}
 use Rattle.text.specs.Lines.{length-4, length-8}
 
@@ -32,13 +34,23 @@ outcomeLineSize = 2 + outcomeSize + 2 * numberSize
 abbrev pub taskLineSize : ℕ
 taskLineSize = 2 + numberSize + (layout.mostLabel + 1) + statusSize + 4 * numberSize
 
+-- the leader's number may have `>` before it
+abbrev pub leaderSize : ℕ
+leaderSize = 1 + numberSize
+
 abbrev pub lockLineSize : ℕ
-lockLineSize = 2 + 3 * numberSize
+lockLineSize = 2 + 2 * numberSize + leaderSize
 
 -- the first line has at most 37: the total of permitted workers has four digits. A task's line has at most 112: its number has three digits,
 -- and only `over` has four numbers after it
 abbrev pub longest : ℕ
 longest = 37 + 112 * layout.mostTasks + lockLineSize
+
+-- who leads has a number below that, if anybody does
+abbrev pub LeaderBelow : ℕ → Leader → Type 0
+LeaderBelow n Nobody = Unit {0}
+LeaderBelow n (Owner w) = w < n
+LeaderBelow n (Due w) = w < n
 
 -- at most so many tasks, labels of at most so many bytes, and numbers of 64 bits
 pub record Small (c : Setup) (s : State) : Type 0 where
@@ -48,7 +60,7 @@ pub record Small (c : Setup) (s : State) : Type 0 where
   pub permitted : totalPermitted c < 10 ^ 4
   pub head : s .lock .head < 2 ^ 64
   pub tail : s .lock .tail < 2 ^ 64
-  pub owner : (w : ℕ) → owner c s ≡ some w → w < 2 ^ 64
+  pub leader : LeaderBelow (2 ^ 64) (leader c s)
   pub runner : (i : ℕ) → i < length (c .tasks) → s .tasks .runner i < 2 ^ 64
   pub receipt : (i : ℕ) → i < length (c .tasks) → s .tasks .receipt i < 2 ^ 64
   pub ending : (i : ℕ) → i < length (c .tasks) → s .tasks .ending i < 2 ^ 64
@@ -59,11 +71,18 @@ unfolding bytes
 outcome-short true = omega arith
 outcome-short false = omega arith
 
--- an owner's number or a giver's
+-- a giver's number
 worker-short : (o : Option ℕ) → ((w : ℕ) → o ≡ some w → w < 2 ^ 64) → length (numberOrNone o) ≤ 20
 unfolding bytes
 worker-short none h = omega arith
 worker-short (some w) h = decimal-20 w (h w refl)
+
+-- a leader's, and `>` where it is due
+leader-short : (x : Leader) → LeaderBelow (2 ^ 64) x → length (leaderField x) ≤ 21
+unfolding bytes
+leader-short Nobody h = omega arith
+leader-short (Owner w) h = omega (arith, decimal-20 w h)
+leader-short (Due w) h = omega (arith, decimal-20 w h)
 
 -- a status and the three numbers after it, which it may not yet show
 figures-short : (st : Status) (a b e : ℕ) → a < 2 ^ 64 → b < 2 ^ 64 → e < 2 ^ 64
@@ -123,10 +142,10 @@ module _ (c : Setup) (s : State) where
         outcome-short (finished c s),
         decimal-20 (s .picks) (small .picks),
         decimal-short 3 (totalPermitted c) (small .permitted),
-        length-4 (bytes "L") (decimal (s .lock .head)) (decimal (s .lock .tail)) (numberOrNone (owner c s)),
+        length-4 (bytes "L") (decimal (s .lock .head)) (decimal (s .lock .tail)) (leaderField (leader c s)),
         decimal-20 (s .lock .head) (small .head),
         decimal-20 (s .lock .tail) (small .tail),
-        worker-short (owner c s) (small .owner),
+        leader-short (leader c s) (small .leader),
         small .tasks,
         tasks-short 0 (c .tasks) (rw z (small .tasks)) (small .labels)
             (λ k g.

@@ -13,6 +13,7 @@ ghost use Rattle.report.specs.Shown.{fieldsOf, TaskShown, Shown};
 use line::put_lock_line;
 use line::put_outcome_line;
 use line::put_task_line;
+use machine::Leader;
 use memory::labels::label_of;
 use memory::rows::outcome_of;
 
@@ -20,14 +21,14 @@ mod line; // line.rt: its lines
 mod word; // word.rt: the words of its fields
 
 // What the report says besides its tasks: whether the run is finished, picks taken, the total of permitted workers, the lock's ends, the
-// owner's number and 1 more, or 0; how many tasks.
+// leader; how many tasks.
 pub struct Summary {
     pub finished: bool,
     pub picks: u64,
     pub permitted: u64,
     pub head: u64,
     pub tail: u64,
-    pub owner: u64,
+    pub leader: Leader,
     pub tasks: u64,
 }
 
@@ -100,5 +101,6 @@ pub fn put_report(
         next = put_task(i, text, tasks, labels, givers, output, next);
         i += 1;
     }
-    put_lock_line(summary.head, summary.tail, summary.owner, output, next)
+    let leader = summary.leader;
+    put_lock_line(summary.head, summary.tail, leader, output, next)
 }

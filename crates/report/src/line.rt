@@ -9,9 +9,11 @@ ghost use Rattle.memory.specs.Layout as layout;
 ghost use Rattle.memory.specs.Codes.{statusCode, optionCode};
 ghost use Rattle.report.specs.Report.{outcomeFields, taskFields, lockFields};
 ghost use Rattle.report.specs.Sizes.{outcomeLineSize, taskLineSize, lockLineSize};
+use crate::word::put_leader;
 use crate::word::put_outcome;
 use crate::word::put_status;
 use crate::word::put_worker;
+use machine::Leader;
 use memory::layout;
 use memory::rows::Outcome;
 use text::number::put_if;
@@ -35,15 +37,20 @@ pub(crate) fn put_outcome_line(
     put_number(permitted, b'\n', out, next)
 }
 
-pub(crate) fn put_lock_line(head: u64, tail: u64, owner: u64, out: &mut [u8], at: usize) -> usize
+pub(crate) fn put_lock_line(
+    head: u64,
+    tail: u64,
+    leader: Leader,
+    out: &mut [u8],
+    at: usize,
+) -> usize
     requires { ⌜ at + lockLineSize < 2 ^ 64 ⌝ }
-    ensures { λ r. ⌜ ((o : Option ℕ) → optionCode o ≡ owner
-        → Wrote (now (out .entry)) at (fields (lockFields head tail o)) r (now (out .exit))) ⌝ }
+    ensures { λ r. ⌜ Wrote (now (out .entry)) at (fields (lockFields head tail leader)) r (now (out .exit)) ⌝ }
 {
     let next = put_field(b"L", b'\t', out, at);
     let next = put_number(head, b'\t', out, next);
     let next = put_number(tail, b'\t', out, next);
-    put_worker(owner, out, next)
+    put_leader(leader, out, next)
 }
 
 pub(crate) fn put_task_line(

@@ -7,10 +7,12 @@ ghost use Rattle.text.specs.Decimals.{numberSize};
 ghost use Rattle.text.specs.Writing.{field, Wrote};
 ghost use Rattle.tasks.specs.Tasks.{Status};
 ghost use Rattle.memory.specs.Codes.{statusCode, optionCode};
-ghost use Rattle.report.specs.Report.{outcomeName, statusName};
-ghost use Rattle.report.specs.Sizes.{statusSize, outcomeSize};
+ghost use Rattle.report.specs.Report.{outcomeName, statusName, leaderField};
+ghost use Rattle.report.specs.Sizes.{statusSize, outcomeSize, leaderSize};
+use machine::Leader;
 use memory::layout;
 use text::number::put_number;
+use text::write::put_bytes;
 use text::write::put_field;
 
 pub(crate) fn put_outcome(finished: bool, out: &mut [u8], at: usize) -> usize
@@ -50,4 +52,19 @@ pub(crate) fn put_worker(worker: u64, out: &mut [u8], at: usize) -> usize
         return put_field(b"-", b'\n', out, at);
     }
     put_number(worker - 1, b'\n', out, at)
+}
+
+// Who leads the lock: the last field of its line.
+pub(crate) fn put_leader(leader: Leader, out: &mut [u8], at: usize) -> usize
+    requires { ⌜ at + leaderSize < 2 ^ 64 ⌝ }
+    ensures { λ r. ⌜ Wrote (now (out .entry)) at (field (leaderField leader) lineFeed) r (now (out .exit)) ⌝ }
+{
+    match leader {
+        Leader::Nobody => put_field(b"-", b'\n', out, at),
+        Leader::Owner(w) => put_number(w, b'\n', out, at),
+        Leader::Due(w) => {
+            let next = put_bytes(b">", out, at);
+            put_number(w, b'\n', out, next)
+        }
+    }
 }

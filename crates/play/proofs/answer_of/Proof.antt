@@ -19,7 +19,7 @@ use Rattle.play.proofs.answer_of.Tie as tie
 
 -- from the summary back to the beginning, and what the numbers show there
 abbrev begun : tie.After-summary-of → tie.Start
-begun at = at .before .before .before .before .before .before .before .before
+begun at = at .before .before .before .before .before .before .before .before .before .before .before
 
 asks : (at : tie.After-summary-of)
     → let args = begun at .args in
@@ -33,11 +33,11 @@ asks at =
     let start = begun at in
     let args = start .args in
     let (m, d, s, sized, small, labels, holds) = start .pre .1 in
-    let few = few-tasks (args .n) (args .store .now) (args .device .now) (sum .result) (sum .ensures) m d s
+    let few = few-tasks (args .n) (args .store .now) (args .wait .now) (args .tickets .now) (args .cells .now) (args .device .now) (sum .result) (sum .ensures) m d s
     (args .rows .now) (args .text .now) (args .labels .now) sized labels holds in
-    let is = shown (args .n) (args .store .now) (args .device .now) (sum .result) (sum .ensures) m d s
+    let is = shown (args .n) (args .store .now) (args .wait .now) (args .tickets .now) (args .cells .now) (args .device .now) (sum .result) (sum .ensures) m d s
     (args .rows .now) (args .text .now) (args .labels .now) sized labels holds in (
-      (start .pre .0 .2, start .pre .0 .3, omega (arith, start .pre .0 .1, from-long GIVERS (args .device .now)), few),
+      (start .pre .0 .5, start .pre .0 .6, omega (arith, start .pre .0 .4, from-long GIVERS (args .device .now)), few),
       (d, s, small, is),
     )
 
@@ -52,14 +52,21 @@ part-summary-of-end c = search needs
 
 summary-of-requires : tie.Need-summary-of-requires
 summary-of-requires c κs =
-    let start = c .before .before .before .before .before .before .before in
+    let start = c .before .before .before .before .before .before .before .before .before .before in
     let device = start .args .device .now in
     let (_, d, _, sized, _, _, holds) = start .pre .1 in
     let masks = masks-are d device sized (holds .device .masks) in
     let count = holds .tasks .tasks in (
-      (start .pre .0 .0, omega (arith, holds .device .workers, sized .workers)),
       (
-        omega (arith, start .pre .0 .1, from-long MASKS device),
+        start .pre .0 .0,
+        omega (arith, holds .device .workers, sized .workers),
+        omega (arith, holds .device .slots, sized .ring),
+        omega (arith, holds .device .slots, sized .slots, start .pre .0 .1),
+        omega (arith, start .pre .0 .2),
+        omega (arith, start .pre .0 .3),
+      ),
+      (
+        omega (arith, start .pre .0 .4, from-long MASKS device),
         omega (arith, count, sized .tasks),
         λ i l. masks-fit d (from MASKS device) masks i (omega arith),
       ),
@@ -91,12 +98,12 @@ returns c m d s left sized small labels holds =
     let at = room .before .before in
     let sum = at .summary-of in
     let args = begun at .args in
-    let is = shown (args .n) (args .store .now) (args .device .now) (sum .result) (sum .ensures) m d s
+    let is = shown (args .n) (args .store .now) (args .wait .now) (args .tickets .now) (args .cells .now) (args .device .now) (sum .result) (sum .ensures) m d s
     (args .rows .now) (args .text .now) (args .labels .now) sized labels holds in
     let put = written .put-report .ensures d s is in
     let enough : length (report d s) ≤ length (args .output .now) =
     leb-true _ _ (sym (room .has-room .ensures d s small is) ∙ test .if1 .taken) in
-    long-enough (args .n) (args .store .now) (args .device .now) (sum .result) (sum .ensures) m d s
+    long-enough (args .n) (args .store .now) (args .wait .now) (args .tickets .now) (args .cells .now) (args .device .now) (sum .result) (sum .ensures) m d s
     (args .rows .now) (args .text .now) (args .labels .now) sized labels holds
     left (args .output .now) _ _ enough (told-length put) (wrote-whole put enough)
 
@@ -106,9 +113,9 @@ returns-2 c m d s left sized small labels holds =
     let at = room .before .before in
     let sum = at .summary-of in
     let args = begun at .args in
-    let is = shown (args .n) (args .store .now) (args .device .now) (sum .result) (sum .ensures) m d s
+    let is = shown (args .n) (args .store .now) (args .wait .now) (args .tickets .now) (args .cells .now) (args .device .now) (sum .result) (sum .ensures) m d s
     (args .rows .now) (args .text .now) (args .labels .now) sized labels holds in
-    too-short (args .n) (args .store .now) (args .device .now) (sum .result) (sum .ensures) m d s
+    too-short (args .n) (args .store .now) (args .wait .now) (args .tickets .now) (args .cells .now) (args .device .now) (sum .result) (sum .ensures) m d s
     (args .rows .now) (args .text .now) (args .labels .now) sized labels holds
     left (args .output .now)
     (leb-false _ _ (sym (room .has-room .ensures d s small is) ∙ c .if1 .left))

@@ -51,7 +51,7 @@ play-orders-requires c κs =
 
 answer-of-requires : tie.Need-answer-of-requires
 answer-of-requires c κs =
-    let answering = c .before .before .before .before .before .before .before .before .before .before in
+    let answering = c .before .before .before .before .before .before .before .before .before .before .before .before .before in
     let end = answering .before .before .before .before .before .before .before .before .before .before .before in
     let playing = end .before .before .before .before .before .before .before .before .before .before .before .before in
     let laid = playing .before .before .before .before .before .before .before .before .before .before .before .before .before in
@@ -63,12 +63,15 @@ answer-of-requires c κs =
     let held = end .play-orders .ensures .0 _ p e (says .count) (says .orders) (made .0) in (
       (
         omega (arith, end .play-orders .kept .1 .1 .1 .1 .1 .1 .1 .1 .1 .1 .1 .0, start .pre .0 .0),
+        end .play-orders .kept .1 .1 .1 .1 .0 ∙ laid .set-up .kept .1 .1 .1 .1 .0 ∙ lengths .0,
+        end .play-orders .kept .1 .1 .1 .1 .1 .1 .0 ∙ laid .set-up .kept .1 .1 .1 .1 .1 .1 .0 ∙ lengths .2,
+        end .play-orders .kept .1 .1 .1 .1 .1 .1 .1 .0 ∙ laid .set-up .kept .1 .1 .1 .1 .1 .1 .1 .0 ∙ lengths .3,
         end .play-orders .kept .1 .1 .1 .1 .1 .1 .1 .1 .0 ∙ laid .set-up .kept .1 .1 .1 .1 .1 .1 .1 .1 .0 ∙ lengths .4,
         end .play-orders .kept .1 .1 .1 .1 .1 .1 .1 .1 .1 .0 ∙ laid .set-up .kept .1 .1 .1 .1 .1 .1 .1 .1 .1 .0 ∙ lengths .5,
         laid .set-up .kept .1 .1 .1 .1 .1 .1 .1 .1 .1 .1 .1 .0 ∙ lengths .7,
       ),
       (
-        memory (end .play-orders .result) _ _ _ _ [] [] _,
+        memory (end .play-orders .result) [] _ [] [] [] [] _,
         setupOf p,
         reached p (start .args .limit),
         sized _ p e,
@@ -80,7 +83,7 @@ answer-of-requires c κs =
 
 same-length : tie.Need-same-length
 same-length c =
-    let answering = c .before .before .before .before .before .before .before .before .before .before .before .before .before in
+    let answering = c .before .before .before .before .before .before .before .before .before .before .before .before .before .before .before .before in
     let end = answering .before .before .before .before .before .before .before .before .before .before .before in
     let playing = end .before .before .before .before .before .before .before .before .before .before .before .before in
     let laid = playing .before .before .before .before .before .before .before .before .before .before .before .before .before in
@@ -88,7 +91,7 @@ same-length c =
 
 same-length-2 : tie.Need-same-length-2
 same-length-2 c =
-    let answering = c .before .before .before .before .before .before .before .before .before .before .before .before .before in
+    let answering = c .before .before .before .before .before .before .before .before .before .before .before .before .before .before .before .before in
     let end = answering .before .before .before .before .before .before .before .before .before .before .before in
     let playing = end .before .before .before .before .before .before .before .before .before .before .before .before in
     let laid = playing .before .before .before .before .before .before .before .before .before .before .before .before .before in
@@ -96,7 +99,7 @@ same-length-2 c =
 
 same-length-3 : tie.Need-same-length-3
 same-length-3 c =
-    let answering = c .before .before .before .before .before .before .before .before .before .before .before .before .before in
+    let answering = c .before .before .before .before .before .before .before .before .before .before .before .before .before .before .before .before in
     let end = answering .before .before .before .before .before .before .before .before .before .before .before in
     let playing = end .before .before .before .before .before .before .before .before .before .before .before .before in
     let laid = playing .before .before .before .before .before .before .before .before .before .before .before .before .before in
@@ -104,7 +107,7 @@ same-length-3 c =
 
 same-length-4 : tie.Need-same-length-4
 same-length-4 c =
-    let answering = c .before .before .before .before .before .before .before .before .before .before .before .before .before in
+    let answering = c .before .before .before .before .before .before .before .before .before .before .before .before .before .before .before .before in
     let end = answering .before .before .before .before .before .before .before .before .before .before .before in
     let playing = end .before .before .before .before .before .before .before .before .before .before .before .before in
     let laid = playing .before .before .before .before .before .before .before .before .before .before .before .before .before in
@@ -112,7 +115,7 @@ same-length-4 c =
 
 same-length-5 : tie.Need-same-length-5
 same-length-5 c =
-    let answering = c .before .before .before .before .before .before .before .before .before .before .before .before .before in
+    let answering = c .before .before .before .before .before .before .before .before .before .before .before .before .before .before .before .before in
     let end = answering .before .before .before .before .before .before .before .before .before .before .before in
     let playing = end .before .before .before .before .before .before .before .before .before .before .before .before in
     let laid = playing .before .before .before .before .before .before .before .before .before .before .before .before .before in
@@ -120,7 +123,7 @@ same-length-5 c =
 
 same-length-6 : tie.Need-same-length-6
 same-length-6 c =
-    let answering = c .before .before .before .before .before .before .before .before .before .before .before .before .before in
+    let answering = c .before .before .before .before .before .before .before .before .before .before .before .before .before .before .before .before in
     let end = answering .before .before .before .before .before .before .before .before .before .before .before in
     let playing = end .before .before .before .before .before .before .before .before .before .before .before .before in
     let laid = playing .before .before .before .before .before .before .before .before .before .before .before .before .before in
@@ -128,7 +131,7 @@ same-length-6 c =
 
 same-length-7 : tie.Need-same-length-7
 same-length-7 c =
-    let answering = c .before .before .before .before .before .before .before .before .before .before .before .before .before in
+    let answering = c .before .before .before .before .before .before .before .before .before .before .before .before .before .before .before .before in
     let end = answering .before .before .before .before .before .before .before .before .before .before .before in
     let playing = end .before .before .before .before .before .before .before .before .before .before .before .before in
     let laid = playing .before .before .before .before .before .before .before .before .before .before .before .before .before in
@@ -136,7 +139,7 @@ same-length-7 c =
 
 same-length-8 : tie.Need-same-length-8
 same-length-8 c =
-    let answering = c .before .before .before .before .before .before .before .before .before .before .before .before .before in
+    let answering = c .before .before .before .before .before .before .before .before .before .before .before .before .before .before .before .before in
     let end = answering .before .before .before .before .before .before .before .before .before .before .before in
     let playing = end .before .before .before .before .before .before .before .before .before .before .before .before in
     let laid = playing .before .before .before .before .before .before .before .before .before .before .before .before .before in
@@ -150,7 +153,7 @@ same-length-10 c = search needs
 
 returns : tie.Need-returns
 returns c =
-    let answering = c .before .before .before .before .before .before .before .before .before .before .before .before .before in
+    let answering = c .before .before .before .before .before .before .before .before .before .before .before .before .before .before .before .before in
     let end = answering .before .before .before .before .before .before .before .before .before .before .before in
     let playing = end .before .before .before .before .before .before .before .before .before .before .before .before in
     let laid = playing .before .before .before .before .before .before .before .before .before .before .before .before .before in
@@ -160,7 +163,7 @@ returns c =
           let limit = start .args .limit in
           let made = laid .set-up .ensures _ p _ e (says .tasks) (start .pre .0 .0) (start .pre .0 .1) (start .pre .1 .0 .8) in
           let held = end .play-orders .ensures .0 _ p e (says .count) (says .orders) (made .0) in
-          let m = memory (end .play-orders .result) _ _ _ _ [] [] _ in
+          let m = memory (end .play-orders .result) [] _ [] [] [] [] _ in
           c .before .before .answer-of .ensures m (setupOf p) (reached p limit) left (sized _ p e) (small _ p e limit) (made .1) held,
       end .play-orders .ensures .1,
     )

@@ -27,8 +27,8 @@ put-number-requires-2 c κs =
     let at3 = head .put-number .ensures .0 in
     omega (arith, at2, at3, letter .before .before .before .before .pre)
 
-put-worker-requires : tie.Need-put-worker-requires
-put-worker-requires c κs =
+put-leader-requires : tie.Need-put-leader-requires
+put-leader-requires c κs =
     let tail = c .before .before .before in
     let head = tail .before .before .before .before in
     let letter = head .before .before .before .before in
@@ -43,12 +43,11 @@ same-length c = search needs
 returns : tie.Need-returns
 unfolding bytes
 returns c =
-    let owner = c .before .before in
-    let tail = owner .before .before .before .before in
+    let leader = c .before .before in
+    let tail = leader .before .before .before .before in
     let head = tail .before .before .before .before in
     let letter = head .before .before .before .before in
-    λ o e.
-    let last = wrote-last (owner .put-worker .ensures .1 o e) refl in
+    let last = wrote-last (leader .put-leader .ensures) refl in
     wrote-field (letter .put-field .ensures) (wrote-field (head .put-number .ensures .1) (wrote-field (tail .put-number2 .ensures .1) last))
 
 pub put-lock-line-spec : {M : Type 1} → statement M
@@ -59,6 +58,6 @@ put-lock-line-spec =
     put-field-requires
     put-number-requires
     put-number-requires-2
-    put-worker-requires
+    put-leader-requires
     same-length
     returns)
