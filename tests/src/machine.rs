@@ -366,6 +366,32 @@ impl Machine {
         self.owner = None;
     }
 
+    // Who would own, and who would receive.
+
+    /// The worker for whom the lock is spoken for: its turn has come, registered or not, and
+    /// its cell is not filled for its ticket, so it owns when it looks.
+    pub fn due(&self) -> Option<usize> {
+        let mut owning = self.would_find().filter(|(_, look)| *look == Look::Owns);
+        owning.next().map(|(worker, _)| worker)
+    }
+
+    /// Whether a worker that was served and let in has yet to look.
+    pub fn served_to_look(&self) -> bool {
+        let mut found = self.would_find();
+        found.any(|(_, look)| matches!(look, Look::Receives(_)))
+    }
+
+    /// What each worker with a ticket out would find by a look now.
+    fn would_find(&self) -> impl Iterator<Item = (usize, Look)> + '_ {
+        let workers = self.workers.iter().enumerate();
+        workers.filter_map(|(worker, state)| match state.place {
+            Place::Register(ticket) | Place::Look(ticket) => {
+                Some((worker, self.lock.look(ticket, worker)))
+            }
+            _ => None,
+        })
+    }
+
     // Tasks in hand.
 
     fn receive(&mut self, worker: usize, task: usize) {

@@ -36,10 +36,20 @@ pub fn report(text: &[u8], plan: &Plan, machine: &Machine) -> Vec<u8> {
             &"L",
             &machine.lock.head,
             &machine.lock.tail,
-            &or_dash(machine.owner),
+            &lock_field(machine),
         ],
     );
     out
+}
+
+/// The last field of the L line: the owner, else the worker that will own by its look, marked
+/// with `>`, else `-`.
+pub fn lock_field(machine: &Machine) -> String {
+    match (machine.owner, machine.due()) {
+        (Some(owner), _) => owner.to_string(),
+        (None, Some(due)) => format!(">{due}"),
+        (None, None) => "-".to_string(),
+    }
 }
 
 /// The line that a program prints for a refusal.

@@ -56,6 +56,29 @@ pub fn play(plan: &Plan, limit: u64) -> Machine {
     machine
 }
 
+/// Picks of the first `most` after which nobody owns: those that leave the lock free while a
+/// served worker has not looked, which are rare, or else those that leave it spoken for.
+pub fn without_owner(plan: &Plan, most: usize) -> Vec<u64> {
+    let mut machine = Machine::new(plan);
+    let (mut free, mut spoken_for) = (Vec::new(), Vec::new());
+    for worker in Picks::new(plan).take(most) {
+        if machine.finished() {
+            break;
+        }
+        machine.step(worker);
+        if machine.due().is_some() {
+            spoken_for.push(machine.picks);
+        } else if machine.lock.free() && machine.served_to_look() {
+            free.push(machine.picks);
+        }
+    }
+    if free.is_empty() {
+        spoken_for
+    } else {
+        free
+    }
+}
+
 /// What the program prints: the report, or the line of the refusal.
 pub fn answer_bytes(text: &[u8], limit: u64) -> Vec<u8> {
     match check(text) {

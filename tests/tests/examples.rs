@@ -207,7 +207,7 @@ fn old_cell() {
     ];
     let machine = play(&check(&lines(&plan)).unwrap(), u64::MAX);
     assert!(machine.lock.turn(67) && machine.lock.cells[0] == (65, 0));
-    let report = "E open 30 6\nT 0 a over 0 22 23 1\nT 1 b run 1 17 - 1\nL 68 68 -\n";
+    let report = "E open 30 6\nT 0 a over 0 22 23 1\nT 1 b run 1 17 - 1\nL 68 68 >0\n";
     assert_eq!(shown(&plan), report);
 }
 
@@ -431,7 +431,7 @@ fn not_past_an_unregistered_ticket() {
         "W 3", "T a 0", "T b 0", "P 0 6", "P 1 6", "P 2 1", "P 0 2", "P 1 2",
     ];
     // Worker 1 owns and has drained; worker 2 has ticket 65, worker 0 waits with 66.
-    let report = "E open 17 6\nT 0 a run 1 16 - 1\nT 1 b ready - - - -\nL 67 66 -\n";
+    let report = "E open 17 6\nT 0 a run 1 16 - 1\nT 1 b ready - - - -\nL 67 66 >2\n";
     assert_eq!(shown(&plan), report);
 }
 

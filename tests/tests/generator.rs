@@ -20,18 +20,48 @@ fn played(plan: &Plan) -> Machine {
     play(plan, u64::MAX)
 }
 
-/// Plays step by step; tells too whether a worker other than 0 tried the lock.
-fn watched(plan: &Plan) -> (Machine, bool) {
+/// What a run came through, which its last state may not show.
+#[derive(Default)]
+struct Passed {
+    /// A worker other than 0 tried the lock.
+    other_tried: bool,
+    /// The lock was spoken for; of that, for a worker that had not registered; for one whose
+    /// cell was filled for an earlier ticket; beside a served one that had not looked.
+    spoken_for: bool,
+    unregistered: bool,
+    old_cell: bool,
+    beside_served: bool,
+    /// It was free, and a served worker had not looked.
+    served_free: bool,
+}
+
+impl Passed {
+    fn add(&mut self, machine: &Machine) {
+        let served = machine.served_to_look();
+        if let Some(due) = machine.due() {
+            let place = machine.workers[due].place;
+            self.spoken_for = true;
+            self.unregistered |= matches!(place, Place::Register(_));
+            self.old_cell |= machine.lock.cells[due].0 > 0;
+            self.beside_served |= served;
+        }
+        self.served_free |= served && machine.lock.free();
+    }
+}
+
+/// Plays step by step, and tells what the run came through.
+fn watched(plan: &Plan) -> (Machine, Passed) {
     let mut machine = Machine::new(plan);
-    let mut other_tried = false;
+    let mut passed = Passed::default();
     for worker in Picks::new(plan) {
         if machine.finished() {
             break;
         }
-        other_tried |= worker > 0 && machine.workers[worker].place == Place::TryLock;
+        passed.other_tried |= worker > 0 && machine.workers[worker].place == Place::TryLock;
         machine.step(worker);
+        passed.add(&machine);
     }
-    (machine, other_tried)
+    (machine, passed)
 }
 
 /// Whether the run got as far as a seeded line.
@@ -86,6 +116,16 @@ impl Seen {
             machine.finished() && !plan.tasks.is_empty(),
         );
         self.add("open", !machine.finished());
+    }
+
+    /// How the lock stood on the way, and whether it is spoken for in the report.
+    fn add_lock(&mut self, machine: &Machine, passed: &Passed) {
+        self.add("spoken for", passed.spoken_for);
+        self.add("spoken for before registering", passed.unregistered);
+        self.add("spoken for with an old cell", passed.old_cell);
+        self.add("spoken for beside a served one", passed.beside_served);
+        self.add("free beside a served one", passed.served_free);
+        self.add("reported as spoken for", machine.due().is_some());
     }
 
     /// What a plan of the second form has, and does with it.
@@ -174,9 +214,10 @@ fn small_and_medium_runs_hit_what_matters() {
         let mut seen = Seen::default();
         for text in texts(shape, 1_000, seed) {
             let plan = check(&text).unwrap();
-            let (machine, other_tried) = watched(&plan);
+            let (machine, passed) = watched(&plan);
             seen.add_run(&plan, &machine);
-            seen.add("try by another than worker 0", other_tried);
+            seen.add_lock(&machine, &passed);
+            seen.add("try by another than worker 0", passed.other_tried);
             seen.add("first form", plan.form == Form::First);
             seen.add_sizes(&plan, &machine);
             seen.add_masks(&plan);
@@ -421,8 +462,9 @@ fn three_hundred_samples_hit_what_matters() {
     for seed in 0..300 {
         match check(&sample(seed)) {
             Ok(plan) => {
-                let machine = played(&plan);
+                let (machine, passed) = watched(&plan);
                 seen.add_run(&plan, &machine);
+                seen.add_lock(&machine, &passed);
                 seen.add_sizes(&plan, &machine);
                 seen.add_masks(&plan);
             }

@@ -5,6 +5,7 @@ use second::lock::{Handed, Lock, Look};
 use second::machine::{Machine, Place, State};
 use second::plan::{check, Form, Plan};
 use second::random::{plan, with_masks, without_masks, Rng, Shape};
+use second::report::lock_field;
 use second::run;
 
 /// A wait, from the registering pick on.
@@ -24,6 +25,26 @@ struct Giving {
     pick: u64,
 }
 
+/// A ticket that is out, from the pick that takes it until its worker owns or receives.
+#[derive(Clone, Copy)]
+struct Ticket {
+    number: u64,
+    /// A task was put into its worker's cell for it.
+    served: bool,
+}
+
+/// What is counted of the lock after each pick.
+const MOMENTS: [&str; 8] = [
+    "spoken for",
+    "spoken for before registering",
+    "spoken for, with that worker's cell filled for an earlier ticket",
+    "spoken for beside a served worker that has not looked",
+    "spoken for as before, after a pick of another",
+    "spoken for as before, after registering",
+    "owned by the look of the worker that was shown",
+    "free beside a served worker that has not looked",
+];
+
 /// What an owner does at the serving place.
 #[derive(Clone, Copy)]
 enum Choice {
@@ -37,6 +58,10 @@ struct Watch<'p> {
     plan: &'p Plan,
     machine: Machine,
     waits: Vec<Option<Wait>>,
+    tickets: Vec<Option<Ticket>>,
+    /// Whom the L line shows with `>`.
+    shown: Option<usize>,
+    moments: [u64; MOMENTS.len()],
     receipts: Vec<Vec<usize>>,
     endings: Vec<Vec<usize>>,
     /// By task, as receipts and endings are.
@@ -54,6 +79,9 @@ impl<'p> Watch<'p> {
             plan,
             machine: Machine::new(plan),
             waits: vec![None; plan.workers as usize],
+            tickets: vec![None; plan.workers as usize],
+            shown: None,
+            moments: [0; MOMENTS.len()],
             receipts: vec![Vec::new(); plan.tasks.len()],
             endings: vec![Vec::new(); plan.tasks.len()],
             givings: vec![Vec::new(); plan.tasks.len()],
@@ -70,7 +98,7 @@ impl<'p> Watch<'p> {
     /// One pick, with every question about it.
     fn step(&mut self, worker: usize) {
         let place = self.machine.workers[worker].place;
-        let tail = self.machine.lock.tail;
+        let (head, tail) = (self.machine.lock.head, self.machine.lock.tail);
         let states = self.states();
         self.no_flag_repeats(worker);
         let owner = self.machine.owner;
@@ -85,6 +113,8 @@ impl<'p> Watch<'p> {
             self.follow_hand_over(worker, tail);
         }
         self.follow_waits(worker, place, self.machine.lock.tail - tail);
+        self.follow_tickets(worker, head, choice);
+        self.follow_shown(worker, place);
         self.follow_tasks(worker, place, &states);
         self.turns();
         self.front_waiter();
@@ -187,6 +217,78 @@ impl<'p> Watch<'p> {
         if received || self.machine.owner == Some(worker) {
             let wait = self.waits[worker].take();
             assert!(wait.is_none_or(|wait| wait.hand_overs >= wait.distance));
+        }
+    }
+
+    fn follow_tickets(&mut self, worker: usize, head: u64, choice: Option<Choice>) {
+        let machine = &self.machine;
+        if machine.lock.head > head {
+            self.tickets[worker] = Some(Ticket {
+                number: head,
+                served: false,
+            });
+        }
+        if let Some(Choice::Serves { waiter, .. }) = choice {
+            let ticket = self.tickets[waiter].as_mut();
+            ticket.expect("who waits has a ticket").served = true;
+        }
+        // A try that wins owns in the pick that takes its ticket.
+        if machine.owner == Some(worker) || machine.workers[worker].task.is_some() {
+            self.tickets[worker] = None;
+        }
+    }
+
+    /// The workers with a ticket out whose turn has come: those that were served, or the others.
+    fn let_in(&self, served: bool) -> Vec<usize> {
+        let tail = self.machine.lock.tail;
+        let let_in = |ticket: Ticket| ticket.number < tail && ticket.served == served;
+        let workers = 0..self.tickets.len();
+        workers
+            .filter(|&worker| self.tickets[worker].is_some_and(let_in))
+            .collect()
+    }
+
+    /// The lock is owned, spoken for or free, exactly one of these, and the report tells which.
+    /// A worker that is shown with `>` stays so until its own look, and then it owns.
+    fn follow_shown(&mut self, worker: usize, place: Place) {
+        let machine = &self.machine;
+        let (field, shown) = match (machine.owner, &self.let_in(false)[..]) {
+            (Some(owner), []) => (owner.to_string(), None),
+            (None, &[due]) => (format!(">{due}"), Some(due)),
+            (None, []) => ("-".to_string(), None),
+            (owner, due) => panic!("{owner:?} owns, {due:?} are due"),
+        };
+        assert_eq!(lock_field(machine), field);
+        assert_eq!(field == "-", machine.lock.tail == machine.lock.head + 1);
+        let before = self.shown;
+        let looks = matches!(place, Place::Look(_)) && before == Some(worker);
+        if looks {
+            assert_eq!(machine.owner, before);
+        } else if before.is_some() {
+            assert_eq!(shown, before);
+        }
+        self.shown = shown;
+        self.count_moments(worker, before, looks);
+    }
+
+    fn count_moments(&mut self, worker: usize, before: Option<usize>, owned: bool) {
+        let served = !self.let_in(true).is_empty();
+        let lock = &self.machine.lock;
+        let shown = self.shown.is_some();
+        let as_before = shown && before == self.shown;
+        let own_pick = self.shown == Some(worker);
+        let moments = [
+            shown,
+            self.shown.is_some_and(|due| self.waits[due].is_none()),
+            self.shown.is_some_and(|due| lock.cells[due].0 > 0),
+            shown && served,
+            as_before && !own_pick,
+            as_before && own_pick,
+            owned,
+            lock.free() && served,
+        ];
+        for (count, seen) in self.moments.iter_mut().zip(moments) {
+            *count += u64::from(seen);
         }
     }
 
@@ -516,8 +618,8 @@ fn sized(plan: &Plan, slots: u64, capacity: u64) -> Plan {
     plan
 }
 
-/// Plays a plan with a list of picks; gives the state it ends with.
-fn play(rng: &mut Rng, plan: &Plan, list: List, most: u64) -> Machine {
+/// Plays a plan with a list of picks; gives the state it ends with and what was seen of it.
+fn play<'p>(rng: &mut Rng, plan: &'p Plan, list: List, most: u64) -> Watch<'p> {
     let mut picker = Picker::new(list, plan.workers as usize);
     let regular = picker.regular();
     let limit = regular.map_or(most, |regular| finishing_figure(plan, regular));
@@ -534,7 +636,7 @@ fn play(rng: &mut Rng, plan: &Plan, list: List, most: u64) -> Machine {
         "the finishing figure"
     );
     assert!(watch.machine.lock.tail == plan.form.slots() + 1 + watch.hand_overs);
-    watch.machine
+    watch
 }
 
 /// A random plan whose order lines are not used.
@@ -571,19 +673,27 @@ fn play_many(seed: u64, shape: Shape, plans: usize, most: u64) {
     let mut finished = 0;
     // Runs in which masks made a difference, by the ways in which they can.
     let mut tied = [0; 4];
+    let mut moments = [0; MOMENTS.len()];
     for _ in 0..plans {
         let plan = random_plan(rng, shape);
         for list in lists(rng, plan.workers) {
             let plan = sized(&plan, ring(rng, plan.workers), capacity(rng));
-            let machine = play(rng, &plan, list, most);
-            finished += usize::from(machine.finished());
-            let times = differences(&machine);
+            let watch = play(rng, &plan, list, most);
+            finished += usize::from(watch.machine.finished());
+            let times = differences(&watch.machine);
             assert!(times == [0; 4] || plan.has_masks());
             (0..4).for_each(|way| tied[way] += usize::from(times[way] > 0));
+            (0..MOMENTS.len()).for_each(|at| moments[at] += watch.moments[at]);
         }
     }
     assert!(finished >= 4 * plans, "{finished} of {}", 5 * plans);
     assert!(tied.iter().all(|&runs| runs >= plans / 4), "{tied:?}");
+    for (name, times) in MOMENTS.iter().zip(moments) {
+        assert!(
+            times >= 5 * plans as u64,
+            "{name}: {times} in {plans}; {moments:?}"
+        );
+    }
 }
 
 /// How often a task was served or taken past the first ready one, a waiter was not
@@ -623,7 +733,7 @@ fn large_plans() {
         for list in [List::RoundRobin, List::Hostile(50), List::Random] {
             for (slots, capacity) in [(64, 8), (32, 1), (33, 16)] {
                 let plan = sized(&plan, slots, capacity);
-                assert!(play(rng, &plan, list, 2_000_000).finished());
+                assert!(play(rng, &plan, list, 2_000_000).machine.finished());
             }
         }
     }
@@ -675,7 +785,7 @@ fn tight_rings() {
         text.push_str(&"T\ta\t2\tw5\n".repeat(8 + 3 * workers));
         let plan = check(text.as_bytes()).unwrap();
         for list in [List::RoundRobin, List::Bursts, List::Random] {
-            let machine = play(rng, &plan, list, 2_000_000);
+            let machine = play(rng, &plan, list, 2_000_000).machine;
             assert!(machine.finished());
             let laps = machine.lock.tail / plan.form.slots();
             assert!(laps >= 4, "{workers} workers, {list:?}: {laps} laps");

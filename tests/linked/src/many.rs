@@ -4,9 +4,10 @@
 use crate::bench::{run, REPORT_SIZE};
 use crate::fence::Fenced;
 use crate::known::Known;
-use second::plan::{check, Refusal};
+use second::machine::{Machine, Place};
+use second::plan::{check, Plan, Refusal};
 use second::random::{damaged, plan, Rng, Shape};
-use second::run::{play, run as second_run, Reported, STORE_SIZE};
+use second::run::{play, run as second_run, without_owner, Reported, STORE_SIZE};
 
 /// Where no limit is drawn a run still ends here at the latest.
 const LONG: u64 = 100_000;
@@ -86,13 +87,24 @@ fn random_limit(rng: &mut Rng, text: &[u8]) -> u64 {
     match rng.below(16) {
         0 => 0,
         1 => 1,
-        2..=4 => rng.below(60),
-        5..=7 => rng.below(2_000),
+        2..=3 => rng.below(60),
+        4..=5 => rng.below(2_000),
+        6..=7 => ownerless_limit(rng, text),
         8 => tried(text, LONG).map_or(7, |all| all.picks),
         9 => tried(text, LONG).map_or(7, |all| all.picks.saturating_sub(rng.below(3))),
         // few order lines are so long that this takes long
         10 if text.len() < 1_000 => u64::MAX,
         _ => LONG,
+    }
+}
+
+/// A limit at which nobody owns the lock, if the run has one.
+fn ownerless_limit(rng: &mut Rng, text: &[u8]) -> u64 {
+    let picks = check(text).map_or(Vec::new(), |plan| without_owner(&plan, 2_000));
+    if picks.is_empty() {
+        rng.below(60)
+    } else {
+        rng.choose(&picks)
     }
 }
 
@@ -147,7 +159,8 @@ fn call_of(rng: &mut Rng, text: Vec<u8>) -> Call {
     }
 }
 
-/// How often calls were answered in which way, and what M lines did in their runs.
+/// How often calls were answered in which way, what M lines did in their runs, and how the
+/// lock stood in their reports.
 #[derive(Clone, Copy, Debug, Default, PartialEq, Eq)]
 pub struct Counts {
     /// Reports first, then by refusal number.
@@ -162,6 +175,12 @@ pub struct Counts {
     pub stopped_serving: u64,
     /// Runs in which an owner may run no ready task and took none.
     pub left_ready: u64,
+    /// Reports whose L line has `>`.
+    pub spoken_for: u64,
+    /// Of these, with a worker that has not registered.
+    pub unregistered: u64,
+    /// Reports whose L line has `-` while a served worker has not looked.
+    pub served_free: u64,
 }
 
 impl Counts {
@@ -170,21 +189,32 @@ impl Counts {
             Ok(reported) => {
                 self.answers[0] += 1;
                 self.picks += reported.picks;
-                self.add_masks(call);
+                let plan = check(&call.text).expect("a plan that has a report");
+                let machine = play(&plan, call.limit);
+                self.add_masks(&plan, &machine);
+                self.add_lock(&machine);
             }
             Err(refusal) => self.answers[usize::from(refusal.number)] += 1,
         }
     }
 
-    fn add_masks(&mut self, call: &Call) {
-        let Ok(plan) = check(&call.text) else { return };
+    fn add_masks(&mut self, plan: &Plan, machine: &Machine) {
         if plan.has_masks() {
-            let counters = play(&plan, call.limit).counters;
+            let counters = machine.counters;
             self.with_masks += 1;
             self.passed_over += u64::from(counters.served_past + counters.taken_past > 0);
             self.stopped_serving += u64::from(counters.stopped_serving > 0);
             self.left_ready += u64::from(counters.left_ready > 0);
         }
+    }
+
+    fn add_lock(&mut self, machine: &Machine) {
+        if let Some(due) = machine.due() {
+            let place = machine.workers[due].place;
+            self.spoken_for += 1;
+            self.unregistered += u64::from(matches!(place, Place::Register(_)));
+        }
+        self.served_free += u64::from(machine.lock.free() && machine.served_to_look());
     }
 }
 

@@ -254,6 +254,71 @@ mod masks {
     }
 }
 
+/// Locks that nobody owns: spoken for, or free.
+mod without_owner {
+    use super::*;
+
+    /// Whoever has the first ticket is shown with `>`, registered or not.
+    #[test]
+    fn the_first_ticket() {
+        for picks in 1..=2 {
+            let order = format!("P 1 {picks}");
+            let report = format!("E open {picks} 2\nT 0 a new - - - -\n");
+            let first = shown(&["W 2", "T a 0", &order]);
+            assert_eq!(first, format!("{report}L 65 65 >1\n"));
+            let two_slots = shown(&["W 2 2 1", "T a 0", &order]);
+            assert_eq!(two_slots, format!("{report}L 3 3 >1\n"));
+        }
+        let report = "E open 1 32\nT 0 a new - - - -\nL 33 33 >31\n";
+        assert_eq!(shown(&["W 32 32 16", "T a 0", "P 31 1"]), report);
+    }
+
+    /// Worker 1 leaves at 11, and worker 0 has its ticket alone; then the run is finished.
+    #[test]
+    fn let_in_before_registering() {
+        let plan = ["W 2", "T a 0", "P 1 3", "P 0 4", "P 1 4"];
+        let report = "E open 11 2\nT 0 a run 1 10 - 1\nL 66 66 >0\n";
+        assert_eq!(shown(&plan), report);
+        let report = "E finished 12 2\nT 0 a over 1 10 12 1\nL 66 66 >0\n";
+        assert_eq!(shown(&[&plan[..], &["P 1 1"]].concat()), report);
+    }
+
+    /// Worker 0 is served at 11 and doesn't look: it is not shown while the lock is free,
+    /// while worker 1 has the next ticket and while it owns.
+    #[test]
+    fn served() {
+        for (order, picks, line) in [
+            ("P 1 4", 12, "L 66 66 1"),
+            ("P 1 6", 14, "L 66 67 -"),
+            ("P 1 7", 15, "L 67 67 >1"),
+            ("P 1 8", 16, "L 67 67 >1"),
+            ("P 1 9", 17, "L 67 67 1"),
+        ] {
+            let report = format!("E open {picks} 2\nT 0 a held - - - 1\n{line}\n");
+            assert_eq!(shown(&["W 2", "T a 0", "P 1 3", "P 0 5", order]), report);
+        }
+    }
+
+    /// Beside a served worker the one behind it is shown, whichever has the smaller number.
+    #[test]
+    fn served_before_another() {
+        let plan = ["W 3", "T a 0", "P 1 3", "P 0 5", "P 2 1", "P 1 7"];
+        let report = "E open 16 3\nT 0 a held - - - 1\nL 67 67 >2\n";
+        assert_eq!(shown(&plan), report);
+        let plan = ["W 3 3 1", "T a 0", "P 1 3", "P 2 2", "P 0 4", "P 1 7"];
+        let report = "E open 16 3\nT 0 a held - - - 1\nL 6 6 >0\n";
+        assert_eq!(shown(&plan), report);
+    }
+
+    /// A worker whose cell is filled for an earlier ticket is shown.
+    #[test]
+    fn old_cell() {
+        let plan = ["W 2", "T a 0", "T b 9", "P 1 3", "P 0 8", "P 1 6", "P 0 3"];
+        let report = "E open 20 4\nT 0 a over 0 18 19 1\nT 1 b run 1 16 - 1\nL 67 67 >0\n";
+        assert_eq!(shown(&plan), report);
+    }
+}
+
 /// Plans that name their ring slots and queue capacity.
 mod second_form {
     use super::*;
@@ -479,6 +544,13 @@ fn random_calls() {
                 counts.left_ready,
             ];
             assert!(tied.iter().all(|&runs| runs >= 100), "{counts:?}");
+            let lock = [
+                (counts.spoken_for, 500),
+                (counts.unregistered, 100),
+                (counts.served_free, 20),
+            ];
+            let enough = lock.iter().all(|&(reports, least)| reports >= least);
+            assert!(enough, "{counts:?}");
         }
         Err((call, what)) => panic!(
             "{what}: limit {}, store {}, output {}, {:?}",

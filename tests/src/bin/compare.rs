@@ -1,8 +1,8 @@
 //! compare COUNT SEED: has the proof checker compute the bench's definitions on COUNT random plans
 //! and holds each whole answer to this implementation's: of a check (acceptance or refusal, looks),
 //! of a run (report or refusal, picks, store, output) and of both converters (length or refusal,
-//! output). Says how many of the plans are accepted with M lines, and in how many runs an owner
-//! serves or takes otherwise because of them.
+//! output). Says how many of the plans are accepted with M lines, in how many runs an owner serves
+//! or takes otherwise because of them, and how many reports have `>` in their L line.
 
 use second::convert::{to_first, to_second, Converter};
 use second::looks::bounds;
@@ -63,9 +63,11 @@ fn draw(seed: u64) -> Call {
     let text = random::sample(seed);
     let mut rng = Rng::new(seed ^ 0x5eed);
     let held = held(&text);
-    let limit = match rng.below(4) {
+    let ownerless = check(&text).map_or(Vec::new(), |plan| run::without_owner(&plan, 300));
+    let limit = match rng.below(5) {
         0 | 1 => u64::MAX,
         2 if !held.is_empty() => rng.choose(&held),
+        3 if !ownerless.is_empty() => rng.choose(&ownerless),
         _ => rng.below(200),
     };
     let store = match rng.below(12) {
@@ -186,6 +188,14 @@ fn tied(seed: u64) -> (bool, bool) {
     (plan.has_masks(), past + none > 0)
 }
 
+/// Whether a run gives a report with `>`, which only its L line can have.
+fn spoken_for(seed: u64) -> bool {
+    let call = draw(seed);
+    let (mut store, mut output) = (vec![IN_STORE; call.store], vec![IN_OUTPUT; call.output]);
+    let done = run::run(&call.text, call.limit, &mut store, &mut output);
+    done.is_ok_and(|done| output[..done.length].contains(&b'>'))
+}
+
 fn module(first: u64, count: u64) -> String {
     let mut out = String::from(
         "use mathlib.Core.Path.{_≡_, refl}\nuse mathlib.Core.List.{[], _∷_, _++_}\nuse lib.ListN.{replicate}\n",
@@ -268,11 +278,13 @@ fn main() {
         exit(2);
     };
     if done.status.success() {
-        let all: Vec<(bool, bool)> = (seed..seed + count).map(tied).collect();
+        let seeds = seed..seed + count;
+        let all: Vec<(bool, bool)> = seeds.clone().map(tied).collect();
         println!(
-            "compare: {count} plans from seed {seed}, {} with M lines, which changed {} runs, no difference",
+            "compare: {count} plans from seed {seed}, {} with M lines, which changed {} runs, {} reports with `>`, no difference",
             all.iter().filter(|(masks, _)| *masks).count(),
-            all.iter().filter(|(_, changed)| *changed).count()
+            all.iter().filter(|(_, changed)| *changed).count(),
+            seeds.filter(|&seed| spoken_for(seed)).count()
         );
     } else {
         print!(

@@ -1,6 +1,6 @@
 //! run_many COUNT SEED: holds the proved run to the second implementation's on
 //! COUNT random and damaged plans, with random limits, stores and outputs. Says what M
-//! lines did in these runs.
+//! lines did in these runs, and how the lock stood in their reports.
 
 use linked::arguments::count_and_seed;
 use std::io::Write;
@@ -18,6 +18,9 @@ fn main() {
                 (counts.passed_over, "with a task passed over"),
                 (counts.stopped_serving, "that stopped serving"),
                 (counts.left_ready, "where an owner left tasks ready"),
+                (counts.spoken_for, "reports with `>` in the L line"),
+                (counts.unregistered, "with a worker that has not registered"),
+                (counts.served_free, "with `-` before a served one looks"),
             ] {
                 println!("{times:9} {what}");
             }
