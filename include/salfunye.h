@@ -30,7 +30,7 @@ extern "C" {
 #define SALFUNYE_STORE_SIZE 8192
 
 /* No report is longer, in bytes. */
-#define SALFUNYE_REPORT_SIZE 14438
+#define SALFUNYE_REPORT_SIZE 14439
 
 /* Refusals. 1 to 5 and 9 to 11 are the plan's, with its line from 1; of two faulty
  * lines the first decides, and within a line the order is 1, 3, 2, 4, 5, in a W
