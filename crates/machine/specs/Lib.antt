@@ -13,6 +13,7 @@ pub mod Safety
 pub mod Progress
 pub mod Played
 pub mod PlayedMasks
+pub mod PlayedLeaders
 pub mod WholeRuns
 pub mod Givers
 pub mod Leaders
