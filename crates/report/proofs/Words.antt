@@ -2,14 +2,18 @@
 use Prim.Native.Nat.{ℕ, zero, suc, _-_, _≤_}
 use mathlib.Core.Path.{_≡_, refl, sym, ap, _∙_}
 use mathlib.Core.Logic.{_≢_}
+use mathlib.Core.List.{List, [], _∷_}
 use mathlib.Core.Option.{Option, none, some}
 use native.Mathlib.Omega.{arith}
 use lib.Dec.{leb}
-use Rattle.text.specs.Text.{decimal, unknown, numberIf, numberOrNone}
+use Rattle.text.specs.Text.{bytes, lineFeed, decimal, unknown, numberIf, numberOrNone}
+use Rattle.text.specs.Writing.{plain, field, Wrote}
+use Rattle.text.specs.WritingLaws.{wrote-then}
 use Rattle.tasks.specs.Tasks.{Status, new, waiting, ready, held, running, over, stage}
+use Rattle.machine.specs.declared.Leader.the-variants.{Due}
 use Rattle.memory.specs.Layout as layout
 use Rattle.memory.specs.Codes.{statusCode, optionCode}
-use Rattle.report.specs.Report.{statusName, knownFrom}
+use Rattle.report.specs.Report.{statusName, knownFrom, leaderField}
 
 -- ---- statuses
 
@@ -71,3 +75,10 @@ module _ (o : Option ℕ) (n : ℕ) (e : optionCode o ≡ n) where
       go : (o : Option ℕ) → optionCode o ≡ n → numberOrNone o ≡ decimal (n - 1)
       go none h = absurd (omega arith)
       go (some w) h = let same : w ≡ n - 1 = omega arith in ap decimal same
+
+-- ---- the mark of a worker that is due
+
+pub wrote-marked : (w : ℕ) {out mid after : List ℕ} {at next end : ℕ} → Wrote mid next (field (decimal w) lineFeed) end after
+    → Wrote out at (plain (62 ∷ [])) next mid → Wrote out at (field (leaderField (Due w)) lineFeed) end after
+unfolding bytes
+wrote-marked w number mark = wrote-then mark refl number

@@ -1,9 +1,10 @@
 -- `report::word::put_leader` meets its contract. Assumes nothing.
 use native.Mathlib.Omega.{arith}
-use mathlib.Core.Path.{refl, ap}
+use mathlib.Core.Path.{ap}
 use Rattle.text.specs.Text.{bytes}
-use Rattle.text.specs.WritingLaws.{short-ends, wrote-same, wrote-then}
+use Rattle.text.specs.WritingLaws.{short-ends, wrote-same}
 use Rattle.report.specs.Report.{leaderField}
+use Rattle.report.proofs.Words.{wrote-marked}
 use borrow.Author.Needs.{needs}
 use Rattle.report.proofs.word.put_leader.Statement.{statement}
 use Rattle.report.proofs.word.put_leader.Tie as tie
@@ -58,11 +59,10 @@ same-length-3 : tie.Need-same-length-3
 same-length-3 c = search needs
 
 returns-3 : tie.Need-returns-3
-unfolding bytes
 returns-3 c =
     let put = c .before .before in
     let mark = put .before .before .before .before in
-    wrote-same (wrote-then (mark .put-bytes .ensures) refl (put .put-number2 .ensures .1))
+    wrote-same (wrote-marked _ (put .put-number2 .ensures .1) (mark .put-bytes .ensures))
     (ap leaderField (mark .before .before .before .before .leader2 .given .1))
 
 pub put-leader-spec : {M : Type 1} → statement M
