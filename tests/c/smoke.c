@@ -1,7 +1,8 @@
 /*
  * A C caller of the bench, the converters and the lock, by the header alone: the
  * paper's listing, refusals, what is left in store and output, a task tied to a
- * worker, the listing moved to the other form and back, and some turns of the lock.
+ * worker, locks that nobody owns, the listing moved to the other form and back, and
+ * some turns of the lock.
  * Buffers are taken from the heap in their exact sizes, so that a memory checker
  * sees a step past their ends.
  */
@@ -34,6 +35,10 @@ static const char few_slots[] = "W\t2\t1\t8\n";
 static const char tied[] = "W\t4\nT\ta\t5\nM\t8\nP\t0\t3\nP\t1\t3\nP\t2\t2\nP\t0\t2\nP\t3\t2\nP\t1\t6\nP\t2\t7\nP\t0\t7\nP\t3\t10\n";
 static const char tied_report[] = "E\tfinished\t39\t1\nT\t0\ta\tover\t3\t33\t39\t0\nL\t68\t68\t0\n";
 static const char nobody[] = "W\t4\nT\ta\t0\nM\t0\nR\t1\n";
+/* worker 1 serves worker 0, which doesn't look, and leaves with pick 14; then it takes the next ticket */
+static const char unseen[] = "W\t2\nT\ta\t0\nP\t1\t3\nP\t0\t5\nP\t1\t7\n";
+static const char free_report[] = "E\topen\t14\t2\nT\t0\ta\theld\t-\t-\t-\t1\nL\t66\t67\t-\n";
+static const char spoken_for_report[] = "E\topen\t15\t2\nT\t0\ta\theld\t-\t-\t-\t1\nL\t67\t67\t>1\n";
 
 static void *taken(size_t size) {
     void *room = malloc(size > 0 ? size : 1);
@@ -112,6 +117,8 @@ static void bench(void) {
     EXPECT(ran.number == 0 && ran.line == 0 && ran.picks == 14);
     ran = run(listing, size, 14, SALFUNYE_STORE_SIZE + 9, SALFUNYE_REPORT_SIZE, report);
     EXPECT(ran.number == 0 && ran.picks == 14);
+    ran = run(listing, size, 1, SALFUNYE_STORE_SIZE, 100, "E\topen\t1\t2\nT\t0\ta\tnew\t-\t-\t-\t-\nL\t65\t65\t>1\n");
+    EXPECT(ran.number == 0 && ran.picks == 1);
     ran = run(listing, size, 3, SALFUNYE_STORE_SIZE, 100, "E\topen\t3\t2\nT\t0\ta\tnew\t-\t-\t-\t-\nL\t65\t65\t1\n");
     EXPECT(ran.number == 0 && ran.picks == 3);
     ran = run(listing, size, UINT64_MAX, SALFUNYE_STORE_SIZE, length - 1, NULL);
@@ -128,6 +135,12 @@ static void bench(void) {
     EXPECT(ran.number == 0 && ran.line == 0 && ran.picks == 39);
     ran = run(nobody, strlen(nobody), UINT64_MAX, SALFUNYE_STORE_SIZE, 100, NULL);
     EXPECT(ran.number == SALFUNYE_EMPTY_MASK && ran.line == 3 && ran.picks == 0);
+    ran = run(unseen, strlen(unseen), 14, SALFUNYE_STORE_SIZE, strlen(free_report), free_report);
+    EXPECT(ran.number == 0 && ran.line == 0 && ran.picks == 14);
+    ran = run(unseen, strlen(unseen), UINT64_MAX, SALFUNYE_STORE_SIZE, strlen(spoken_for_report), spoken_for_report);
+    EXPECT(ran.number == 0 && ran.line == 0 && ran.picks == 15);
+    ran = run(unseen, strlen(unseen), UINT64_MAX, SALFUNYE_STORE_SIZE, strlen(spoken_for_report) - 1, NULL);
+    EXPECT(ran.number == SALFUNYE_OUTPUT_TOO_SHORT && ran.line == 0 && ran.picks == 0);
 
     char *large = taken(SALFUNYE_TEXT_SIZE + 1);
     memset(large, 'W', SALFUNYE_TEXT_SIZE + 1);

@@ -1,17 +1,19 @@
 //! reports KNOWN COUNT SEED [PLAN..]: a line for each plan file and for COUNT random
 //! calls of the run, by seeds from SEED up, with texts that mean the same, or are
 //! refused alike, in builds that know no more than KNOWN, which is one of first-form,
-//! both-forms and masks. A line has name, refusal number and line, picks, length, a hash
-//! of the report and all of the store, and whether the output past the report is as it
-//! was. Where KNOWN is less than masks the report is taken without the field that came
-//! with them, so builds that answer alike but for it print the same.
+//! both-forms, masks and spoken-for. A line has name, refusal number and line, picks,
+//! length, a hash of the report and all of the store, and whether the output past the
+//! report is as it was. The report is taken as builds show it that know no more than
+//! KNOWN: before masks without the last field of the E line, before spoken-for with `-`
+//! in the L line where it has `>` and a worker. So builds that answer alike but for
+//! these print the same.
 //!
 //! reports known: what the build knows that is linked here.
 //!
 //! reports show KNOWN SEED: the random call of a seed, and its text.
 
 use linked::bench::{run, REPORT_SIZE};
-use linked::known::{field_length, without_field, Known};
+use linked::known::Known;
 use linked::many::{known_call, used_output, used_store, Call};
 use second::random::Rng;
 use second::run::STORE_SIZE;
@@ -26,20 +28,17 @@ fn hash(from: u64, bytes: &[u8]) -> u64 {
 }
 
 /// The whole answer to a call of a build that knows what is known `here`. What a refusal
-/// has none of is 0. Where the report lacks a field the output is shorter by it.
+/// has none of is 0. The output is shorter by what the report lacks, so that it is too
+/// short in both builds or in none.
 fn answer(mut call: Call, known: Known, here: Known) -> String {
-    if here < Known::Masks {
-        let room = call.output.len().saturating_sub(field_length(&call.text));
-        call.output.truncate(room);
-    }
+    let missing = here.missing(&call.text, call.limit);
+    let room = call.output.len().saturating_sub(missing);
+    call.output.truncate(room);
     let before = call.output.clone();
     let answer = run(&call.text, call.limit, &mut call.store, &mut call.output);
     let (number, line) = answer.map_or_else(|no| (no.number, no.line), |_| (0, 0));
     let (picks, length) = answer.map_or((0, 0), |all| (all.picks, all.length));
-    let mut report = call.output[..length].to_vec();
-    if length > 0 && known < Known::Masks && here == Known::Masks {
-        report = without_field(&report);
-    }
+    let report = answer.map_or(Vec::new(), |_| known.shown(&call.output[..length], here));
     let mut left = hash(0xcbf2_9ce4_8422_2325, &report);
     for number in &call.store {
         left = hash(left, &number.to_le_bytes());
