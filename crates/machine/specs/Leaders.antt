@@ -1,27 +1,26 @@
 -- Free or spoken for: what every list of picks from a fresh start says of who leads the lock.
-use Prim.Native.Nat.{ℕ, suc, _≤_, _<_}
+use Prim.Native.Nat.{ℕ, suc, _<_}
 use native.Mathlib.Omega.{arith}
-use mathlib.Core.Path.{_≡_, refl, sym, ap, subst, _∙_}
+use mathlib.Core.Path.{_≡_, refl, sym, ap, _∙_}
 use mathlib.Core.Logic.{_⊎_, inl, inr, ⊎-elim, _↔_, _≢_}
 use mathlib.Core.Bool.{Bool, true, false}
 use mathlib.Core.List.{List, [], _∷_, _++_}
 use mathlib.Core.Option.{Option, none, some}
 use lib.ListN.{length}
 use Rattle.runs.specs.Update.{upd, upd-same, upd-other, clash}
-use Rattle.runs.specs.Searches.{lastBelow, last-below, last-passes, last-only}
+use Rattle.runs.specs.Searches.{last-below, last-passes, last-only}
 use Rattle.runs.specs.Picks as Picks
 use Rattle.runs.specs.Picks.{Picks, run, run-append}
 use Rattle.lock.specs.Lock as L
 use Rattle.lock.specs.History as LH
 use Rattle.lock.specs.Promise as Lock
-use Rattle.machine.specs.declared.Leader.{Leader}
 use Rattle.machine.specs.declared.Leader.the-variants.{Nobody, Owner, Due}
-use Rattle.machine.specs.State.{Setup, Place, idle, trying, registering, looking, draining, serving, handing, leaving, State, picked}
+use Rattle.machine.specs.State.{Setup, Place, registering, looking, State, picked}
 use Rattle.machine.specs.Event.{owns, registers, seeing, standingAt, event}
 use Rattle.machine.specs.Step.{lockAfter, step, finished, pick, after}
 use Rattle.machine.specs.View.{does-step}
 use Rattle.machine.specs.Whereabouts.{lockStand, isDue, owner, due, leads, leader}
-use Rattle.machine.specs.Safety.Locked.{LockMove, aside, operates, lock-move, waits-at}
+use Rattle.machine.specs.Safety.Locked.{LockMove, aside, operates, lock-move, ticket-at}
 use Rattle.machine.specs.Safety.Owners.{owner-exactly}
 use Rattle.machine.specs.Safety.Dues.{DueWith, cases, due-is, due-lock, due-one, due-stays, due-registered}
 use Rattle.machine.specs.Safety.Traces.{pick-finished, pick-open}
@@ -82,20 +81,6 @@ pub record Leaders (c : Setup) (ws : List ℕ) : Type 0 where
   pub owns-next : (w : ℕ) → leader c (after c ws) ≡ Due w → (vs : List ℕ) → Others (c .workers) w vs → OwnsNext c w (ws ++ vs)
 
 -- ---- one step
-
-holds-at : (p : Place) (t : ℕ) → LH.Holds (lockStand p) t → (p ≡ registering t) ⊎ (p ≡ looking t)
-holds-at p t (inr e) = inr (waits-at p t e)
-holds-at p t (inl e) = inl (go p e)
-  where
-    go : (q : Place) → lockStand q ≡ LH.taken t → q ≡ registering t
-    go idle h = clash (cc)
-    go trying h = clash (cc)
-    go (registering u) h = cc
-    go (looking u) h = clash (cc)
-    go (draining u k) h = clash (cc)
-    go (serving n) h = clash (cc)
-    go (handing n) h = clash (cc)
-    go leaving h = clash (cc)
 
 module _ (c : Setup) (w t : ℕ) where
   -- who is due with this ticket
@@ -158,7 +143,7 @@ module _ (c : Setup) (playable : Playable c) (w t : ℕ) where
 
   next-look : w < c .workers → (ws : List ℕ) → (p : Place) → StaysDue p (after c ws) → OwnsNext c w ws
   unfolding after
-  next-look l ws p h = ⊎-elim registering-first looking-now (holds-at ((after c ws) .place w) t (h .1 .0))
+  next-look l ws p h = ⊎-elim registering-first looking-now (ticket-at ((after c ws) .place w) t (h .1 .0))
     where
       looking-now : (after c ws) .place w ≡ looking t → OwnsNext c w ws
       looking-now e = at-once t (look-owns c w t (after c ws) (h .1) e)

@@ -1,5 +1,4 @@
 -- `is_due` meets its contract.
-use native.Mathlib.Omega.{arith}
 use Rattle.leader.proofs.Leading.{due-before, due-after, due-seen}
 use borrow.Author.Needs.{needs}
 use Rattle.leader.proofs.is_due.Statement.{statement}

@@ -3,15 +3,13 @@ use Prim.Native.Nat.{ℕ, suc, _≤_, _<_}
 use native.Mathlib.Omega.{arith}
 use mathlib.Core.Path.{_≡_, refl, sym, ap, _∙_}
 use mathlib.Core.Logic.{_⊎_, _↔_, inl, inr, ⊎-elim, _≢_}
-use mathlib.Core.Bool.{true, false}
-use mathlib.Core.Option.{Option, none, some}
+use mathlib.Core.Bool.{true}
 use Rattle.runs.specs.Update.{upd, upd-other, same, clash}
 use Rattle.lock.specs.Lock as L
 use Rattle.lock.specs.History as LH
 use Rattle.lock.specs.Promise as Lock
 use Rattle.lock.specs.Promise.{Kept, Leader, nobody, called, owner}
-use Rattle.machine.specs.State.{Setup, Place, idle, trying, registering, looking, draining, serving, handing, leaving, State}
-use Rattle.machine.specs.Whereabouts.{lockStand, wins, isDue}
+use Rattle.machine.specs.Whereabouts.{wins, isDue}
 
 -- worker w holds ticket t, registered or not; its turn has come, and the worker's cell doesn't hold it
 abbrev pub DueWith : ℕ → L.Lock → ℕ → LH.Stand → ℕ → Type 0
@@ -24,7 +22,11 @@ wins-owns L.owns e = refl
 
 -- who is due is who holds such a ticket
 pub due-is : (N : ℕ) (l : L.Lock) (w : ℕ) (x : LH.Stand) → (isDue N l w x ≡ true) ↔ ((t : ℕ) × DueWith N l w x t)
-due-is N l w x = (shown x, λ (t, (h, turn, cell)). ⊎-elim (λ (e : x ≡ LH.taken t). rw e (won t turn cell)) (λ (e : x ≡ LH.waiting t). rw e (won t turn cell)) h)
+due-is N l w x = (
+  shown x,
+  λ (t, (h, turn, cell)).
+      ⊎-elim (λ (e : x ≡ LH.taken t). rw e (won t turn cell)) (λ (e : x ≡ LH.waiting t). rw e (won t turn cell)) h,
+)
   where
     won : (t : ℕ) → L.turn N l t ≡ true → l .cellTicket w ≢ t → wins (L.look N l t w) ≡ true
     won t turn cell = ap wins (Lock.look-wins N l t w .1 (turn, cell))
@@ -65,15 +67,16 @@ module _ {W N : ℕ} {l : L.Lock} {st : ℕ → LH.Stand} (k : Kept W N l st) wh
       only v (s, d .0, due-below v s d, d .2) ∙ sym (only w (t, e .0, due-below w t e, e .2))
 
   -- a worker owns the lock; or nobody does, and a worker is due; or the lock is free
-  pub cases : ((w : ℕ) × (w < W) × LH.Owner (st w))
+  abbrev Cases : Type 0
+  Cases =
+      ((w : ℕ) × (w < W) × LH.Owner (st w))
       ⊎ (((v : ℕ) → LH.Owner (st v) → ⊥) × ((w : ℕ) × (w < W) × ((t : ℕ) × DueWith N l w (st w) t)))
       ⊎ (l .tail ≡ suc (l .head))
+
+  pub cases : Cases
   cases = go (Lock.leader k)
     where
-      go : Leader W l st
-          → ((w : ℕ) × (w < W) × LH.Owner (st w))
-          ⊎ (((v : ℕ) → LH.Owner (st v) → ⊥) × ((w : ℕ) × (w < W) × ((t : ℕ) × DueWith N l w (st w) t)))
-          ⊎ (l .tail ≡ suc (l .head))
+      go : Leader W l st → Cases
       go (owner w b o) = inl (w, b, o)
       go (called w b (t, h, newest, cell)) =
           let turn = Lock.turn-below k t (Lock.ticket-given k w t h .0) .1 (omega arith) in

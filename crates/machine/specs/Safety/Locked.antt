@@ -1,6 +1,7 @@
 -- The machine's lock keeps the lock's promise: each event is one operation of the lock that its worker may do, or leaves the lock alone.
 use Prim.Native.Nat.{ℕ, suc, _≤_, _<_}
 use mathlib.Core.Path.{_≡_, refl, sym, ap, subst, _∙_}
+use mathlib.Core.Logic.{_⊎_, inl, inr, ⊎-elim}
 use mathlib.Core.Bool.{Bool, true, false}
 use mathlib.Core.Option.{Option, none, some}
 use lib.Dec.{ltb}
@@ -88,12 +89,16 @@ module _ (c : Setup) (s : State) (w : ℕ) where
 
 -- ---- a place from where its worker stands with the lock
 
+pub ticket-at : (p : Place) (t : ℕ) → H.Holds (lockStand p) t → (p ≡ registering t) ⊎ (p ≡ looking t)
+ticket-at (registering u) t h = ⊎-elim (λ e. inl cc) (λ e. clash (cc)) h
+ticket-at (looking u) t h = ⊎-elim (λ e. clash (cc)) (λ e. inr cc) h
+ticket-at idle t h = ⊎-elim (λ e. clash (cc)) (λ e. clash (cc)) h
+ticket-at trying t h = ⊎-elim (λ e. clash (cc)) (λ e. clash (cc)) h
+ticket-at (draining p k) t h = ⊎-elim (λ e. clash (cc)) (λ e. clash (cc)) h
+ticket-at (serving n) t h = ⊎-elim (λ e. clash (cc)) (λ e. clash (cc)) h
+ticket-at (handing n) t h = ⊎-elim (λ e. clash (cc)) (λ e. clash (cc)) h
+ticket-at leaving t h = ⊎-elim (λ e. clash (cc)) (λ e. clash (cc)) h
+
 pub waits-at : (p : Place) (t : ℕ) → lockStand p ≡ H.waiting t → p ≡ looking t
-waits-at idle t e = clash (cc)
-waits-at trying t e = clash (cc)
-waits-at (registering u) t e = clash (cc)
-waits-at (looking u) t e = cc
-waits-at (draining p k) t e = clash (cc)
-waits-at (serving n) t e = clash (cc)
-waits-at (handing n) t e = clash (cc)
-waits-at leaving t e = clash (cc)
+waits-at p t e =
+    ⊎-elim (λ (q : p ≡ registering t). let taken : lockStand p ≡ H.taken t = ap lockStand q in clash (cc)) (λ q. q) (ticket-at p t (inr e))

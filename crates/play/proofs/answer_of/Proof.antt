@@ -33,10 +33,10 @@ asks at =
     let start = begun at in
     let args = start .args in
     let (m, d, s, sized, small, labels, holds) = start .pre .1 in
-    let few = few-tasks (args .n) (args .store .now) (args .wait .now) (args .tickets .now) (args .cells .now) (args .device .now) (sum .result) (sum .ensures) m d s
-    (args .rows .now) (args .text .now) (args .labels .now) sized labels holds in
-    let is = shown (args .n) (args .store .now) (args .wait .now) (args .tickets .now) (args .cells .now) (args .device .now) (sum .result) (sum .ensures) m d s
-    (args .rows .now) (args .text .now) (args .labels .now) sized labels holds in (
+    let few = few-tasks (args .n) (args .store .now) (args .wait .now) (args .tickets .now) (args .cells .now) (args .device .now)
+    (sum .result) (sum .ensures) m d s (args .rows .now) (args .text .now) (args .labels .now) sized labels holds in
+    let is = shown (args .n) (args .store .now) (args .wait .now) (args .tickets .now) (args .cells .now) (args .device .now)
+    (sum .result) (sum .ensures) m d s (args .rows .now) (args .text .now) (args .labels .now) sized labels holds in (
       (start .pre .0 .5, start .pre .0 .6, omega (arith, start .pre .0 .4, from-long GIVERS (args .device .now)), few),
       (d, s, small, is),
     )
@@ -98,13 +98,13 @@ returns c m d s left sized small labels holds =
     let at = room .before .before in
     let sum = at .summary-of in
     let args = begun at .args in
-    let is = shown (args .n) (args .store .now) (args .wait .now) (args .tickets .now) (args .cells .now) (args .device .now) (sum .result) (sum .ensures) m d s
-    (args .rows .now) (args .text .now) (args .labels .now) sized labels holds in
+    let is = shown (args .n) (args .store .now) (args .wait .now) (args .tickets .now) (args .cells .now) (args .device .now)
+    (sum .result) (sum .ensures) m d s (args .rows .now) (args .text .now) (args .labels .now) sized labels holds in
     let put = written .put-report .ensures d s is in
     let enough : length (report d s) ≤ length (args .output .now) =
     leb-true _ _ (sym (room .has-room .ensures d s small is) ∙ test .if1 .taken) in
-    long-enough (args .n) (args .store .now) (args .wait .now) (args .tickets .now) (args .cells .now) (args .device .now) (sum .result) (sum .ensures) m d s
-    (args .rows .now) (args .text .now) (args .labels .now) sized labels holds
+    long-enough (args .n) (args .store .now) (args .wait .now) (args .tickets .now) (args .cells .now) (args .device .now)
+    (sum .result) (sum .ensures) m d s (args .rows .now) (args .text .now) (args .labels .now) sized labels holds
     left (args .output .now) _ _ enough (told-length put) (wrote-whole put enough)
 
 returns-2 : tie.Need-returns-2
@@ -113,10 +113,10 @@ returns-2 c m d s left sized small labels holds =
     let at = room .before .before in
     let sum = at .summary-of in
     let args = begun at .args in
-    let is = shown (args .n) (args .store .now) (args .wait .now) (args .tickets .now) (args .cells .now) (args .device .now) (sum .result) (sum .ensures) m d s
-    (args .rows .now) (args .text .now) (args .labels .now) sized labels holds in
-    too-short (args .n) (args .store .now) (args .wait .now) (args .tickets .now) (args .cells .now) (args .device .now) (sum .result) (sum .ensures) m d s
-    (args .rows .now) (args .text .now) (args .labels .now) sized labels holds
+    let is = shown (args .n) (args .store .now) (args .wait .now) (args .tickets .now) (args .cells .now) (args .device .now)
+    (sum .result) (sum .ensures) m d s (args .rows .now) (args .text .now) (args .labels .now) sized labels holds in
+    too-short (args .n) (args .store .now) (args .wait .now) (args .tickets .now) (args .cells .now) (args .device .now)
+    (sum .result) (sum .ensures) m d s (args .rows .now) (args .text .now) (args .labels .now) sized labels holds
     left (args .output .now)
     (leb-false _ _ (sym (room .has-room .ensures d s small is) ∙ c .if1 .left))
 
