@@ -8,7 +8,7 @@ use mathlib.Core.List.{List, [], _∷_, _++_}
 use mathlib.Core.Option.{Option, none, some}
 use lib.ListN.{length}
 use Rattle.runs.specs.Update.{upd, upd-same, upd-other, clash}
-use Rattle.runs.specs.Searches.{last-below, last-passes, last-only}
+use Rattle.runs.specs.Searches.{last-exactly}
 use Rattle.runs.specs.Picks as Picks
 use Rattle.runs.specs.Picks.{Picks, run, run-append}
 use Rattle.lock.specs.Lock as L
@@ -180,12 +180,6 @@ module _ (c : Setup) (playable : Playable c) (ws : List ℕ) (p : Picks (c .work
   inv : Inv c now
   inv = inv-after c playable ws p
 
-  abbrev test : ℕ → Bool
-  test w = isDue (c .slots) (now .lock) w (lockStand (now .place w))
-
-  due-test : (w : ℕ) → (test w ≡ true) ↔ IsDue c now w
-  due-test w = due-is (c .slots) (now .lock) w (lockStand (now .place w))
-
   only-due : (v w : ℕ) → IsDue c now v → IsDue c now w → v ≡ w
   only-due v w (s, d) (t, e) = due-one (inv .locked) v w s t d e
 
@@ -194,10 +188,9 @@ module _ (c : Setup) (playable : Playable c) (ws : List ℕ) (p : Picks (c .work
 
   due-exactly : (w : ℕ) → (due c now ≡ some w) ↔ ((w < c .workers) × IsDue c now w)
   unfolding due
-  due-exactly w = (
-    λ e. (last-below test (c .workers) w e, due-test w .0 (last-passes test (c .workers) w e)),
-    λ (l, d). last-only test (c .workers) w l (due-test w .1 d) (λ v e. only-due v w (due-test v .0 e) d),
-  )
+  due-exactly =
+      last-exactly (λ w. isDue (c .slots) (now .lock) w (lockStand (now .place w))) (IsDue c now)
+      (λ w. due-is (c .slots) (now .lock) w (lockStand (now .place w))) only-due (c .workers)
 
   unowned-none : ((v : ℕ) → Owns c now v → ⊥) → owner c now ≡ none
   unowned-none h = go (owner c now) refl

@@ -2,7 +2,7 @@
 use Prim.Native.Nat.{ℕ, zero, suc, _<_}
 use native.Mathlib.Omega.{arith}
 use mathlib.Core.Path.{_≡_, refl, ap}
-use mathlib.Core.Logic.{⊎-elim}
+use mathlib.Core.Logic.{⊎-elim, _↔_}
 use mathlib.Core.Bool.{Bool, true, false}
 use mathlib.Core.Option.{Option, none, some}
 use Rattle.runs.specs.Update.{same, clash}
@@ -59,6 +59,14 @@ module _ (test : ℕ → Bool) where
       go : (b : Bool) → test n ≡ b → (w < n → lastBelow test n ≡ some w) → elim b [ true ↦ some n | false ↦ lastBelow test n ] ≡ some w
       go true p f = ap some (only n p)
       go false p f = f (⊎-elim (λ (q : w ≡ n). clash (cc)) (λ q. omega arith) (same w n))
+
+-- where a test says P, and P holds of one number at the most, that one is found exactly
+pub last-exactly : (test : ℕ → Bool) (P : ℕ → Type 0) → ((w : ℕ) → (test w ≡ true) ↔ P w) → ((v w : ℕ) → P v → P w → v ≡ w) → (n w : ℕ)
+    → (lastBelow test n ≡ some w) ↔ ((w < n) × P w)
+last-exactly test P says one n w = (
+  λ e. (last-below test n w e, says w .0 (last-passes test n w e)),
+  λ (l, p). last-only test n w l (says w .1 p) (λ v e. one v w (says v .0 e) p),
+)
 
 -- only the numbers below count
 pub last-same : (f g : ℕ → Bool) (n : ℕ) → ((b : ℕ) → b < n → f b ≡ g b) → lastBelow f n ≡ lastBelow g n

@@ -6,7 +6,7 @@ use mathlib.Core.Bool.{Bool, true, false}
 use mathlib.Core.List.{List}
 use mathlib.Core.Option.{Option, none, some}
 use Rattle.runs.specs.Update.{upd-same, upd-other, clash}
-use Rattle.runs.specs.Searches.{last-below, last-passes, last-only}
+use Rattle.runs.specs.Searches.{last-exactly}
 use Rattle.runs.specs.Picks.{Picks}
 use Rattle.lock.specs.Lock as L
 use Rattle.lock.specs.History as LH
@@ -29,21 +29,14 @@ owner-is x = (shown x, ⊎-elim (λ (e : x ≡ LH.owning). rw e) (λ (e : x ≡ 
     shown LH.owning e = inl refl
     shown LH.serving e = inr refl
 
--- and is a worker
-pub owner-below : (c : Setup) (s : State) (w : ℕ) → owner c s ≡ some w → w < c .workers
-unfolding owner
-owner-below c s w e = last-below (λ k. isOwner (lockStand (s .place k))) (c .workers) w e
-
 -- who is shown is exactly who owns
 pub owner-exactly : (c : Setup) → Playable c → (ws : List ℕ) → Picks (c .workers) ws → (w : ℕ)
     → (owner c (after c ws) ≡ some w) ↔ ((w < c .workers) × LH.Owner (lockStand ((after c ws) .place w)))
 unfolding owner
 owner-exactly c playable ws p w =
-    let test : ℕ → Bool = λ k. isOwner (lockStand ((after c ws) .place k)) in (
-      λ e. (last-below test (c .workers) w e, owner-is _ .0 (last-passes test (c .workers) w e)),
-      λ (l, o). last-only test (c .workers) w l (owner-is _ .1 o)
-          (λ v e. Lock.one-owner (inv-after c playable ws p .locked) v w (owner-is _ .0 e) o),
-    )
+    let stand : ℕ → LH.Stand = λ k. lockStand ((after c ws) .place k) in
+    last-exactly (λ k. isOwner (stand k)) (λ k. LH.Owner (stand k)) (λ k. owner-is (stand k))
+    (Lock.one-owner (inv-after c playable ws p .locked)) (c .workers) w
 
 -- whether a worker owns after its step, by whether it owned before: an ownership is won by a look or a try, and ends by leaving
 abbrev pub ownsAfter : Bool → Option LH.Op → Bool
