@@ -79,19 +79,18 @@ module _ (n : Counts) (store wait tickets cells device : List ℕ) (r : Summary)
     pub few-tasks : r .tasks ≤ layout.mostTasks
     few-tasks = omega (arith, tasks-counted, sized .tasks)
 
--- the answer, by the length of the report and of the output
-module _ (c : Setup) (s : State) (left output : List ℕ) where
-  pub too-short : length output < length (report c s)
-      → (Refuses OutputTooShort 0 ≡ (written left output (s .picks) (report c s)) .answer)
-      × (output ≡ (written left output (s .picks) (report c s)) .output)
-  too-short l =
-      let e = sym (written-short left output (s .picks) (report c s) l) in
-      (ap (λ o. o .answer) e, ap (λ o. o .output) e)
+    module _ (left output : List ℕ) where
+      pub too-short : length output < length (report c s)
+          → (Refuses OutputTooShort 0 ≡ (written left output (s .picks) (report c s)) .answer)
+          × (output ≡ (written left output (s .picks) (report c s)) .output)
+      too-short l =
+          let e = sym (written-short left output (s .picks) (report c s) l) in
+          (ap (λ o. o .answer) e, ap (λ o. o .output) e)
 
-  pub long-enough : (picks size : ℕ) (next : List ℕ) → picks ≡ s .picks → length (report c s) ≤ length output
-      → size ≡ length (report c s) → next ≡ report c s ++ drop (length (report c s)) output
-      → (Reports picks size ≡ (written left output (s .picks) (report c s)) .answer)
-      × (next ≡ (written left output (s .picks) (report c s)) .output)
-  long-enough picks size next p l f g =
-      let e = sym (written-whole left output (s .picks) (report c s) l) in
-      (ap (λ k. Reports k size) p ∙ ap (Reports (s .picks)) f ∙ ap (λ o. o .answer) e, g ∙ ap (λ o. o .output) e)
+      pub long-enough : (size : ℕ) (next : List ℕ) → length (report c s) ≤ length output → size ≡ length (report c s)
+          → next ≡ report c s ++ drop (length (report c s)) output
+          → (Reports (n .picks) size ≡ (written left output (s .picks) (report c s)) .answer)
+          × (next ≡ (written left output (s .picks) (report c s)) .output)
+      long-enough size next l f g =
+          let e = sym (written-whole left output (s .picks) (report c s) l) in
+          (ap (λ k. Reports k size) (holds .picks) ∙ ap (Reports (s .picks)) f ∙ ap (λ o. o .answer) e, g ∙ ap (λ o. o .output) e)

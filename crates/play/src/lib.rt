@@ -6,7 +6,6 @@ ghost use mathlib.Core.Option.{none};
 ghost use Prim.Native.Nat.{ℕ, _^_, _≤_, _<_};
 ghost use lib.Dec.{leb};
 ghost use lib.ListN.{length, getD, take, drop, replicate};
-ghost use Rattle.text.specs.Writing.{plain, Wrote};
 ghost use Rattle.plan.specs.Plan.{Plan};
 ghost use Rattle.plan.specs.Reading.{reading, accepted};
 ghost use Rattle.machine.specs.State.{Setup, State, start};
@@ -20,6 +19,7 @@ ghost use Rattle.steps.specs.Memory.{share, Memory, Given, Holds};
 ghost use Rattle.lock_steps.specs.Lent.{withSeen};
 ghost use Rattle.scheduler.specs.Lent.{memory};
 ghost use Rattle.report.specs.Report.{report};
+ghost use Rattle.report.specs.Shown.{Shown};
 ghost use Rattle.report.specs.Totals.{onesOf};
 ghost use Rattle.report.specs.Sizes.{Small};
 ghost use Rattle.orders.specs.Reached.{setupOf, reached};
@@ -88,75 +88,27 @@ fn summary_of(
     }
 }
 
-// Writes the report of a run into the first bytes of an output, as far as it reaches; how many bytes it has. It is called from two places,
-// and so compiled by itself: what it needs takes no register from the picks.
-fn write_report(
-    text: &[u8],
-    n: Counts,
-    wait: &[u64],
-    tickets: &[u64],
-    cells: &[u64],
-    device: &[u64],
-    rows: &[u64],
-    labels: &[u64],
-    store: &[u64],
-    output: &mut [u8],
-) -> usize
-    requires { ⌜ (sharesSize ≤ length (now store)) × (length (now wait) ≡ mostSlots) × (length (now tickets) ≡ mostWorkers)
-        × (length (now cells) ≡ mostWorkers) × (length (now device) ≡ deviceSize) × (length (now rows) ≡ layout.taskRows)
-        × (length (now labels) ≡ layout.labelRows) ⌝ }
-    requires { ⌜ ((m : Memory) × (c : Setup) × (s : State) × Sized c × Labels (c .tasks) (now text) (now labels)
-        × Holds c (withShown m n (now wait) (now tickets) (now cells) (now device) (now rows)) (share (now store)) s) ⌝ }
-    ensures { λ r. ⌜ ((m : Memory) (c : Setup) (s : State) → Sized c → Labels (c .tasks) (now (text .entry)) (now (labels .entry)) →
-        Holds c (withShown m n (now (wait .entry)) (now (tickets .entry)) (now (cells .entry)) (now (device .entry)) (now (rows .entry)))
-        (share (now (store .entry))) s →
-        Wrote (now (output .entry)) 0 (plain (report c s)) r (now (output .exit))) ⌝ }
-{
-    let summary = summary_of(n, store, wait, tickets, cells, &device[MASKS..]);
-    put_report(summary, text, rows, labels, &device[GIVERS..], output)
-}
-
 // Whether an output of so many bytes is long enough for the report. It is only counted where it may not be.
 fn has_room(
+    summary: Summary,
     text: &[u8],
-    n: Counts,
-    wait: &[u64],
-    tickets: &[u64],
-    cells: &[u64],
-    device: &[u64],
     rows: &[u64],
     labels: &[u64],
-    store: &[u64],
+    givers: &[u64],
     size: usize,
 ) -> bool
-    requires { ⌜ (sharesSize ≤ length (now store)) × (length (now wait) ≡ mostSlots) × (length (now tickets) ≡ mostWorkers)
-        × (length (now cells) ≡ mostWorkers) × (length (now device) ≡ deviceSize) × (length (now rows) ≡ layout.taskRows)
-        × (length (now labels) ≡ layout.labelRows) ⌝ }
-    requires { ⌜ ((m : Memory) × (c : Setup) × (s : State) × Sized c × Small c s × Labels (c .tasks) (now text) (now labels)
-        × Holds c (withShown m n (now wait) (now tickets) (now cells) (now device) (now rows)) (share (now store)) s) ⌝ }
-    ensures { λ r. ⌜ ((m : Memory) (c : Setup) (s : State) → Sized c → Small c s →
-        Labels (c .tasks) (now (text .entry)) (now (labels .entry)) →
-        Holds c (withShown m n (now (wait .entry)) (now (tickets .entry)) (now (cells .entry)) (now (device .entry)) (now (rows .entry)))
-        (share (now (store .entry))) s →
+    requires { ⌜ (length (now rows) ≡ layout.taskRows) × (length (now labels) ≡ layout.labelRows)
+        × (layout.mostTasks ≤ length (now givers)) × (summary .tasks ≤ layout.mostTasks) ⌝ }
+    requires { ⌜ ((c : Setup) × (s : State) × Small c s × Shown c s summary (now rows) (now labels) (now givers) (now text)) ⌝ }
+    ensures { λ r. ⌜ ((c : Setup) (s : State) → Small c s →
+        Shown c s summary (now (rows .entry)) (now (labels .entry)) (now (givers .entry)) (now (text .entry)) →
         r ≡ leb (length (report c s)) size) ⌝ }
 {
     if LONGEST <= size {
         return true;
     }
     let mut nothing = [0u8; 0];
-    write_report(
-        text,
-        n,
-        wait,
-        tickets,
-        cells,
-        device,
-        rows,
-        labels,
-        store,
-        &mut nothing,
-    )
-        <= size
+    put_report(summary, text, rows, labels, givers, &mut nothing) <= size
 }
 
 // Writes the report of a run, where the output is long enough.
@@ -184,31 +136,10 @@ fn answer_of(
         (r ≡ (written left (now (output .entry)) (s .picks) (report c s)) .answer)
         × (now (output .exit) ≡ (written left (now (output .entry)) (s .picks) (report c s)) .output)) ⌝ }
 {
-    let size = output.len();
-    if has_room(
-        text,
-        n,
-        wait,
-        tickets,
-        cells,
-        device,
-        rows,
-        labels,
-        store,
-        size,
-    ) {
-        let length = write_report(
-            text,
-            n,
-            wait,
-            tickets,
-            cells,
-            device,
-            rows,
-            labels,
-            store,
-            output,
-        );
+    let summary = summary_of(n, store, wait, tickets, cells, &device[MASKS..]);
+    let givers = &device[GIVERS..];
+    if has_room(summary, text, rows, labels, givers, output.len()) {
+        let length = put_report(summary, text, rows, labels, givers, output);
         let picks = n.picks;
         return Answer::Reports { picks, length };
     }

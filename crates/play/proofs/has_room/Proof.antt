@@ -12,23 +12,24 @@ use Rattle.play.proofs.has_room.Statement.{statement}
 use Rattle.play.proofs.has_room.Tie as tie
 
 returns : tie.Need-returns
-returns c m d s sized small labels holds =
-    let size = c .before .before .before .before .before .before .before .before .before .args .size in
+returns c d s small shown =
+    let size = c .before .before .before .before .before .args .size in
     sym (le-leb (length (report d s)) size (omega (arith, report-short d s small, c .if1 .taken)))
 
-slice-aggregate-write-report : tie.Need-slice-aggregate-write-report
-slice-aggregate-write-report c = search needs
+slice-aggregate-put-report : tie.Need-slice-aggregate-put-report
+slice-aggregate-put-report c = search needs
 
-write-report-requires : tie.Need-write-report-requires
-write-report-requires c κs =
-    let (lengths, (m, d, s, sized, small, labels, holds)) = c .before .before .before .before .before .before .before .before .before .before .pre in
-    (lengths, (m, d, s, sized, labels, holds))
+put-report-requires : tie.Need-put-report-requires
+put-report-requires c κs =
+    let (lengths, (d, s, small, is)) = c .before .before .before .before .before .before .pre in
+    (lengths, (d, s, is))
 
 returns-2 : tie.Need-returns-2
-returns-2 c m d s sized small labels holds =
+returns-2 c d s small shown =
     let put = c .before in
-    let size = put .before .before .before .before .before .before .before .before .before .before .before .args .size in
-    ap (λ n. leb n size) (told-length (put .write-report .ensures m d s sized labels holds))
+    let size = put .before .before .before .before .before .before .before .args .size in
+    ap (λ n. leb n size) (told-length (put .put-report .ensures d s shown))
 
 pub has-room-spec : {M : Type 1} → statement M
-has-room-spec = tie.close (tie.spec returns slice-aggregate-write-report write-report-requires returns-2)
+has-room-spec =
+    tie.close (tie.spec returns slice-aggregate-put-report put-report-requires returns-2)
