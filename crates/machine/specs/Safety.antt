@@ -27,7 +27,8 @@ use Rattle.runs.specs.Traces.{tally-at}
 use Rattle.runs.specs.Picks.{Picks, picks-take, run, run-append, run-drop}
 use Rattle.lock.specs.History.{Owner}
 use Rattle.lock.specs.Promise as Lock
-use Rattle.tasks.specs.Accesses.{taskAt, conflict}
+use Rattle.plan.specs.Chains.{conflict}
+use Rattle.tasks.specs.Accesses.{taskAt}
 use Rattle.tasks.specs.Tasks.{ready, held, running, over, Creation, opening, Created, isReady, isHeld, isRunning, pastWaiting, isReceived}
 use Rattle.tasks.specs.Tasks.{isEnded, opened, untilClosed, toAdd, unsatisfied}
 use Rattle.tasks.specs.History as H

@@ -11,7 +11,8 @@ use lib.Seq.{drop-append-add, take-append-seam}
 use Rattle.runs.specs.Update.{upd-same}
 use Rattle.runs.specs.Picks.{Picks, Regular, picks-take, picks-drop, regular-drop, run, run-append, Within}
 use Rattle.lock.specs.Lock as L
-use Rattle.tasks.specs.Accesses.{taskAt, conflict}
+use Rattle.plan.specs.Chains.{conflict}
+use Rattle.tasks.specs.Accesses.{taskAt}
 use Rattle.tasks.specs.Tasks.{ready, held, running, over, pastWaiting}
 use Rattle.tasks.specs.Playing as P
 use Rattle.machine.specs.State.{Setup, looking, State, start}

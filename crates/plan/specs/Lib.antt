@@ -1,4 +1,5 @@
 pub mod Plan
+pub mod Chains
 pub mod Permits
 pub mod Line
 pub mod Reading

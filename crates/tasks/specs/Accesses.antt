@@ -1,17 +1,17 @@
--- The accesses of a plan's tasks, numbered through the plan in plan order, which follows which at one address, which tasks conflict,
--- and what all tasks cost.
+-- The accesses of a plan's tasks, numbered through the plan in plan order, which follows which at one address, and what all tasks cost.
 use Prim.Native.Nat.{ℕ, suc, _-_, _<_}
 use mathlib.Core.Path.{_≡_}
-use mathlib.Core.Bool.{Bool, true, false, not, _&&_, _||_, cond}
+use mathlib.Core.Bool.{Bool, true, false, cond}
 use mathlib.Core.List.{List, [], _∷_, _++_}
-use mathlib.Core.Option.{Option, none}
+use mathlib.Core.Option.{Option}
 use lib.ListN.{length, getD, take}
 use lib.Dec.{eqb, ltb}
 use Rattle.runs.specs.Sums.{sum}
 use Rattle.runs.specs.Searches.{lastBelow, firstFrom}
-use Rattle.runs.specs.Every.{every}
 use Rattle.plan.specs.Plan.{Access, Task}
 use Rattle.plan.specs.Line.{repeats}
+-- the task of a number
+pub use Rattle.plan.specs.Chains.{noTask, taskAt}
 
 unfoldable pub accesses : List Task → List Access
 accesses [] = []
@@ -22,10 +22,7 @@ unfoldable pub taskOf : List Task → ℕ → ℕ
 taskOf [] a = 0
 taskOf (t ∷ ts) a = elim (ltb a (length (t .accesses))) [ true ↦ 0 | false ↦ suc (taskOf ts (a - length (t .accesses))) ]
 
--- what stands for a task, and for an access, that is not there
-abbrev pub noTask : Task
-noTask = record { label = []; cost = 0; accesses = []; mask = none }
-
+-- what stands for an access that is not there
 abbrev pub noAccess : Access
 noAccess = record { writes = false; address = 0 }
 
@@ -33,9 +30,6 @@ module _ (ts : List Task) where
   -- the number of accesses
   abbrev pub total : ℕ
   total = length (accesses ts)
-
-  abbrev pub taskAt : ℕ → Task
-  taskAt i = getD ts i noTask
 
   abbrev pub accessAt : ℕ → Access
   accessAt a = getD (accesses ts) a noAccess
@@ -69,8 +63,3 @@ totalCost ts = sum (length ts) (λ i. taskAt ts i .cost)
 -- no address stands twice in a task
 abbrev pub Distinct : List Task → Type 0
 Distinct ts = (i : ℕ) → i < length ts → repeats (taskAt ts i .accesses) ≡ false
-
--- two tasks conflict when they share an address and one writes
-unfoldable pub conflict : Task → Task → Bool
-conflict t u =
-    not (every (λ a. every (λ b. not (eqb (a .address) (b .address) && (a .writes || b .writes))) (u .accesses)) (t .accesses))

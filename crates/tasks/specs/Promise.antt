@@ -13,7 +13,8 @@ use Rattle.runs.specs.Sums.{sum}
 use Rattle.runs.specs.Counts.{one-le, count}
 use Rattle.plan.specs.Orders.{numbersFrom}
 use Rattle.plan.specs.Plan.{Task}
-use Rattle.tasks.specs.Accesses.{noAccess, taskOf, taskAt, accessAt, first, reader, prev, next, conflict}
+use Rattle.plan.specs.Chains.{conflict}
+use Rattle.tasks.specs.Accesses.{noAccess, taskOf, taskAt, accessAt, first, reader, prev, next}
 use Rattle.tasks.specs.Flags.{noFlag, Flags, each, sent, with, passesRead, passesWrite}
 use Rattle.tasks.specs.Tasks.{Message, Stand, free, telling, working, Status, new, waiting, ready, held, running, over, opening}
 use Rattle.tasks.specs.Tasks.{Tasks, start, withAdds, withCount, withStatus, stage, isOver, isReady, isHeld, isRunning, pastWaiting}

@@ -12,7 +12,8 @@ use borrow.Author.Tests.{eqb-true, not-true}
 use Rattle.runs.specs.Update.{same, order}
 use Rattle.runs.specs.Every.{every}
 use Rattle.plan.specs.Plan.{Access, Task}
-use Rattle.tasks.specs.Accesses.{noAccess, taskOf, taskAt, accessAt, first, reader, prev, conflict, total, addr}
+use Rattle.plan.specs.Chains.{conflict}
+use Rattle.tasks.specs.Accesses.{noAccess, taskOf, taskAt, accessAt, first, reader, prev, total, addr}
 use Rattle.tasks.specs.Flags.{satisfied}
 use Rattle.tasks.specs.Tasks.{Stand, over, Tasks, linked, pastWaiting}
 use Rattle.tasks.specs.Inside.Links.{access-of}

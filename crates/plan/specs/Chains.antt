@@ -1,0 +1,44 @@
+-- Which tasks of a plan conflict, chains of them, and what a chain costs. Where a task graph has the conflicts as its edges, a chain is one
+-- of its paths.
+use Prim.Native.Nat.{ℕ, _+_, _<_}
+use mathlib.Core.Path.{_≡_}
+use mathlib.Core.Bool.{Bool, true, not, _&&_, _||_}
+use mathlib.Core.List.{List, [], _∷_}
+use mathlib.Core.Option.{none}
+use lib.ListN.{length, getD}
+use lib.Dec.{eqb}
+use Rattle.runs.specs.Every.{every}
+use Rattle.plan.specs.Plan.{Task}
+
+-- what stands for a task that is not there
+abbrev pub noTask : Task
+noTask = record { label = []; cost = 0; accesses = []; mask = none }
+
+abbrev pub taskAt : List Task → ℕ → Task
+taskAt ts i = getD ts i noTask
+
+-- two tasks conflict when they share an address and one writes
+unfoldable pub conflict : Task → Task → Bool
+conflict t u =
+    not (every (λ a. every (λ b. not (eqb (a .address) (b .address) && (a .writes || b .writes))) (u .accesses)) (t .accesses))
+
+module _ (ts : List Task) where
+  -- what may come after task i in a chain: each task is later than the one before it and conflicts with it
+  abbrev pub Follow : ℕ → List ℕ → Type 0
+  Follow i [] = Unit {0}
+  Follow i (j ∷ js) = (i < j) × (j < length ts) × (conflict (taskAt ts i) (taskAt ts j) ≡ true) × Follow j js
+
+  -- a chain, by the numbers of its tasks; it has at least one
+  abbrev pub Chain : List ℕ → Type 0
+  Chain [] = ⊥
+  Chain (i ∷ is) = (i < length ts) × Follow i is
+
+  -- the sum of its tasks' costs
+  unfoldable pub chainCost : List ℕ → ℕ
+  chainCost [] = 0
+  chainCost (i ∷ is) = taskAt ts i .cost + chainCost is
+
+-- the last task of the chain that begins with task i and goes on so
+abbrev pub lastOf : ℕ → List ℕ → ℕ
+lastOf i [] = i
+lastOf i (j ∷ js) = lastOf j js
