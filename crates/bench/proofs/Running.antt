@@ -1,22 +1,23 @@
 -- The answer of a run, case by case.
 use Prim.Native.Nat.{ℕ, _*_, _≤_, _<_}
-use mathlib.Core.Path.{_≡_, refl, sym, ap, _∙_}
+use mathlib.Core.Path.{_≡_, sym, ap, _∙_}
 use mathlib.Core.Logic.{⊎-elim}
 use mathlib.Core.List.{List, _++_}
 use native.Mathlib.Omega.{arith}
 use lib.ListN.{length, take, drop, replicate, length-replicate}
 use lib.Seq.{take-at, drop-at}
-use Rattle.runs.specs.Update.{order, clash}
+use Rattle.runs.specs.Update.{order}
 use Rattle.refusals.specs.declared.Refusal.{Refusal}
 use Rattle.plan.specs.Plan.{Plan}
-use Rattle.plan.specs.Reading.{Reading, accepted, refused, reading}
+use Rattle.plan.specs.Reading.{accepted, refused, reading}
 use Rattle.plan.specs.Accepted.{accepted-well-formed, accepted-orders}
 use Rattle.kept.specs.Layout as layout
 use Rattle.kept.specs.TaskLaws.{tasks-length, has-tasks}
 use Rattle.kept.specs.OrderLaws.{has-orders}
 use Rattle.reader.specs.declared.ReadPlan.{ReadPlan}
-use Rattle.reader.specs.declared.Checked.the-variants.{Accepted, Refused}
+use Rattle.reader.specs.declared.Checked.the-variants.{Accepted}
 use Rattle.reader.specs.Verdict.{Lent, Gives}
+use Rattle.reader.specs.Given.{read-accepted}
 use Rattle.orders.specs.Reached.{reached}
 use Rattle.play.specs.declared.Answer.{Answer}
 use Rattle.play.specs.declared.Answer.the-variants.{Refuses}
@@ -25,40 +26,28 @@ use Rattle.play.specs.Loaded.{Loaded}
 use Rattle.play.specs.Written.{written-short, written-whole}
 use Rattle.bench.specs.Answer.{storeSize, cleared, played}
 
--- what a plan that was read says of the text's reading
-module _ (text : List ℕ) (before after : Lent) (r : ReadPlan) (g : Gives text before after r (reading text)) where
-  pub read-refused : (x : Refusal) (n : ℕ) → r .checked ≡ Refused x n → reading text ≡ refused x n
-  read-refused x n e = go (reading text) g
-    where
-      go : (y : Reading) → Gives text before after r y → y ≡ refused x n
-      go (accepted p) h = let q : Accepted ≡ Refused x n = sym (h .accepts) ∙ e in clash (cc)
-      go (refused y k) h = let q : Refused y k ≡ Refused x n = sym (ap (λ (z : ReadPlan). z .checked) (h .0)) ∙ e in cc
-
-  -- and what is kept of it, where there is room for all
-  pub read-accepted : r .checked ≡ Accepted → length (before .rows) ≡ layout.taskRows → length text ≤ 2 * length (before .lines)
-      → (p : Plan) × (reading text ≡ accepted p) × Loaded text (after .rows) (after .lines) r p
-  read-accepted e rows lines = go (reading text) refl g
-    where
-      go : (y : Reading) → reading text ≡ y → Gives text before after r y
-          → (p : Plan) × (reading text ≡ accepted p) × Loaded text (after .rows) (after .lines) r p
-      go (accepted p) q h =
-          let formed = accepted-well-formed text p q in (
-            p,
-            q,
+-- a plan that is accepted is loaded, where there is room for all of it
+pub read-loaded : (text : List ℕ) (before after : Lent) (r : ReadPlan) → Gives text before after r (reading text) → r .checked ≡ Accepted
+    → length (before .rows) ≡ layout.taskRows → length text ≤ 2 * length (before .lines)
+    → (p : Plan) × (reading text ≡ accepted p) × Loaded text (after .rows) (after .lines) r p
+read-loaded text before after r g e rows lines =
+    let (p, q, h) = read-accepted text before after r g e in
+    let formed = accepted-well-formed text p q in (
+      p,
+      q,
+      record {
+        tasks =
             record {
-              tasks =
-                  record {
-                    size = tasks-length (h .rows) ∙ rows;
-                    workers = h .workers;
-                    form = h .form;
-                    count = h .tasks;
-                    tasks = has-tasks (h .rows) (omega (arith, formed .tasks-few, rows));
-                  };
-              count = h .orders;
-              orders = has-orders (h .lines) (omega (arith, accepted-orders text p q, lines));
-            },
-          )
-      go (refused y k) q h = let w : Refused y k ≡ Accepted = sym (ap (λ (z : ReadPlan). z .checked) (h .0)) ∙ e in clash (cc)
+              size = tasks-length (h .rows) ∙ rows;
+              workers = h .workers;
+              form = h .form;
+              count = h .tasks;
+              tasks = has-tasks (h .rows) (omega (arith, formed .tasks-few, rows));
+            };
+        count = h .orders;
+        orders = has-orders (h .lines) (omega (arith, accepted-orders text p q, lines));
+      },
+    )
 
 module _ (limit : ℕ) (store output text : List ℕ) where
   -- a text that is read: the store is cleared

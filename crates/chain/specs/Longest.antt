@@ -8,7 +8,7 @@ use mathlib.Core.List.{List, [], _∷_, _++_, map}
 use lib.ListN.{length, getD}
 use lib.Dec.{ltb}
 use Rattle.text.specs.Text.{decimal, line}
-use Rattle.plan.specs.Plan.{Task, Plan}
+use Rattle.plan.specs.Plan.{Task}
 use Rattle.plan.specs.Chains.{taskAt, conflict, Chain, chainCost}
 use Rattle.plan.specs.Reading.{reading}
 use Rattle.tools.specs.Result.{Result, result, ofPlan}

@@ -2,15 +2,13 @@
 -- before it. There is only one such.
 use Prim.Native.Nat.{ℕ, zero, suc, _+_, _≤_, _<_}
 use native.Mathlib.Omega.{arith}
-use mathlib.Core.Path.{_≡_, refl, sym, ap, _∙_}
+use mathlib.Core.Path.{_≡_, refl, sym, ap}
 use mathlib.Core.Logic.{_⊎_, inl, inr, ⊎-elim, _≢_}
 use mathlib.Core.Bool.{Bool, true, false, cond}
 use mathlib.Core.List.{List, [], _∷_, _++_, map, List·Memᴰ, List·Memᴰ·head, List·Memᴰ·tail}
 use lib.ListN.{length, getD}
-use lib.Dec.{ltb}
 use borrow.Author.Tests.{lt-ltb, le-ltb}
-use Rattle.runs.specs.Update.{order, same, clash}
-use Rattle.runs.specs.Tests.{ways}
+use Rattle.runs.specs.Update.{order, same}
 use Rattle.runs.specs.Members.{mem-left, mem-right, mem-either}
 use Rattle.plan.specs.Plan.{Task}
 use Rattle.plan.specs.Chains.{taskAt, conflict, Follow, Chain, chainCost}

@@ -17,7 +17,8 @@ use Rattle.reader.specs.declared.ReadPlan.{ReadPlan}
 use Rattle.reader.specs.declared.Checked.the-variants.{Accepted, Refused}
 use Rattle.reader.specs.Verdict.{outlined}
 use Rattle.tools.specs.declared.Answer.the-variants.{Refuses}
-use Rattle.tools.specs.Result.{Result, ofPlan, planText, Outcome, outcome, written}
+use Rattle.tools.specs.Result.{planText, Outcome, outcome, written}
+use Rattle.tools.specs.Written.{written-refused}
 use Rattle.convert.specs.Convert.{afterLine, workersFields, spelledOut, hasFirstSizes, inSecond, inFirst, toSecond, toFirst}
 use Rattle.convert.specs.Reread.{own-line}
 
@@ -30,20 +31,15 @@ module _ (text : List ℕ) (r : ReadPlan) (is : r ≡ outlined text (reading tex
       go (accepted p) q = let w : Accepted ≡ Refused x n = sym (ap (λ (z : ReadPlan). z .checked) q) ∙ e in clash (cc)
       go (refused y k) q = let w : Refused y k ≡ Refused x n = sym (ap (λ (z : ReadPlan). z .checked) q) ∙ e in cc
 
-  refuses : (output : List ℕ) (make : Plan → Result) (x : Refusal) (n : ℕ) → r .checked ≡ Refused x n
-      → outcome (Refuses x n) output ≡ written output (ofPlan make (reading text))
-  unfolding written
-  refuses output make x n e = sym (ap (λ (y : Reading). written output (ofPlan make y)) (outlined-refused x n e))
-
   pub second-refuses : (output : List ℕ) (x : Refusal) (n : ℕ) → r .checked ≡ Refused x n
       → outcome (Refuses x n) output ≡ written output (toSecond text)
   unfolding toSecond
-  second-refuses output = refuses output (inSecond text)
+  second-refuses output x n e = written-refused output (inSecond text) x n (reading text) (outlined-refused x n e)
 
   pub first-refuses : (output : List ℕ) (x : Refusal) (n : ℕ) → r .checked ≡ Refused x n
       → outcome (Refuses x n) output ≡ written output (toFirst text)
   unfolding toFirst
-  first-refuses output = refuses output (inFirst text)
+  first-refuses output x n e = written-refused output (inFirst text) x n (reading text) (outlined-refused x n e)
 
   -- one that is accepted
   module _ (accepts : r .checked ≡ Accepted) where

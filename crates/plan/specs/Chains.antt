@@ -8,7 +8,7 @@ use mathlib.Core.Option.{none}
 use lib.ListN.{length, getD}
 use lib.Dec.{eqb}
 use Rattle.runs.specs.Every.{every}
-use Rattle.plan.specs.Plan.{Task}
+use Rattle.plan.specs.Plan.{Access, Task}
 
 -- what stands for a task that is not there
 abbrev pub noTask : Task
@@ -17,10 +17,13 @@ noTask = record { label = []; cost = 0; accesses = []; mask = none }
 abbrev pub taskAt : List Task → ℕ → Task
 taskAt ts i = getD ts i noTask
 
+-- two accesses to one address, of which one writes
+abbrev pub meet : Access → Access → Bool
+meet a b = eqb (a .address) (b .address) && (a .writes || b .writes)
+
 -- two tasks conflict when they share an address and one writes
 unfoldable pub conflict : Task → Task → Bool
-conflict t u =
-    not (every (λ a. every (λ b. not (eqb (a .address) (b .address) && (a .writes || b .writes))) (u .accesses)) (t .accesses))
+conflict t u = not (every (λ a. every (λ b. not (meet a b)) (u .accesses)) (t .accesses))
 
 module _ (ts : List Task) where
   -- what may come after task i in a chain: each task is later than the one before it and conflicts with it

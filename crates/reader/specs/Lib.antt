@@ -1,3 +1,4 @@
 pub mod Verdict
 pub mod Keeping
 pub mod Looks
+pub mod Given

@@ -1,7 +1,8 @@
 -- `run_with` meets its contract.
 use native.Mathlib.Omega.{arith}
 use mathlib.Core.Path.{refl}
-use Rattle.bench.proofs.Running.{read-refused, read-accepted, played-refused, played-accepted, cleared-again, cleared-zeros}
+use Rattle.reader.specs.Given.{read-refused}
+use Rattle.bench.proofs.Running.{read-loaded, played-refused, played-accepted, cleared-again, cleared-zeros}
 use borrow.Author.Needs.{needs}
 use Rattle.bench.proofs.run_with.Statement.{statement}
 use Rattle.bench.proofs.run_with.Tie as tie
@@ -40,7 +41,7 @@ run-plan-requires c κs =
     let read = reading told in
     let clear = clearing read in
     let start = begun clear in
-    let accepted = read-accepted _ _ _ _ (read .read .ensures) (told .enum-told .given .1) refl (start .pre .1) in
+    let accepted = read-loaded _ _ _ _ (read .read .ensures) (told .enum-told .given .1) refl (start .pre .1) in
     ((omega (arith, clear .clear .kept .0, start .pre .2), cleared-zeros (start .args .store .now) _ (clear .clear .ensures)), accepted)
 
 clear-requires-2 : tie.Need-clear-requires-2
@@ -76,7 +77,7 @@ returns-2 c =
     let clear = clearing read in
     let start = begun clear in
     let args = start .args in
-    let (p, e, loaded) = read-accepted _ _ _ _ (read .read .ensures) (told .enum-told .given .1) refl (start .pre .1) in
+    let (p, e, loaded) = read-loaded _ _ _ _ (read .read .ensures) (told .enum-told .given .1) refl (start .pre .1) in
     let ran = playing .run-plan .ensures in
     played-accepted (args .limit) (args .store .now) (args .output .now) (args .text .now) _
     (cleared-again (args .store .now) _ (playing .run-plan .last .1 .1 .1 .1 .1 .0) _

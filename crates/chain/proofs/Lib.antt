@@ -1,0 +1,5 @@
+mod Scan
+mod Linking
+mod Conflicts
+mod Lines
+mod Telling
