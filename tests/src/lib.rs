@@ -2,6 +2,7 @@
 //! another one can be judged beside it. Ring slots and queue capacity are those
 //! of the plan, of either form.
 
+pub mod chain;
 pub mod convert;
 pub mod lock;
 pub mod looks;

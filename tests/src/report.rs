@@ -2,6 +2,7 @@
 
 use std::fmt::Display;
 
+use crate::chain::Chain;
 use crate::machine::{Machine, State};
 use crate::plan::{Plan, Refusal};
 
@@ -63,6 +64,17 @@ pub fn refusal_line(refusal: Refusal) -> Vec<u8> {
 pub fn accepted_line(looks: usize) -> Vec<u8> {
     let mut out = Vec::new();
     line(&mut out, &[&"A", &looks]);
+    out
+}
+
+/// The line of a chain: the sum of its costs, and its tasks.
+pub fn chain_line(chain: &Chain) -> Vec<u8> {
+    let mut fields: Vec<&dyn Display> = vec![&chain.sum];
+    for number in &chain.numbers {
+        fields.push(number);
+    }
+    let mut out = Vec::new();
+    line(&mut out, &fields);
     out
 }
 

@@ -1,8 +1,8 @@
-//! second [run|check|to-second|to-first]: reads a plan on standard input and prints what
+//! second [run|check|to-second|to-first|chain]: reads a plan on standard input and prints what
 //! `./bench` prints for that command. `run` may be left out.
 
 use second::convert::{self, to_first, to_second};
-use second::{looks, run};
+use second::{chain, looks, run};
 use std::io::{self, Read, Write};
 use std::process::exit;
 
@@ -14,8 +14,9 @@ fn main() -> io::Result<()> {
         ["check"] => looks::answer_bytes,
         ["to-second"] => |text| convert::answer_bytes(to_second, text),
         ["to-first"] => |text| convert::answer_bytes(to_first, text),
+        ["chain"] => chain::answer_bytes,
         _ => {
-            eprintln!("usage: second [run|check|to-second|to-first]");
+            eprintln!("usage: second [run|check|to-second|to-first|chain]");
             exit(2);
         }
     };
