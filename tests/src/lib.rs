@@ -3,6 +3,7 @@
 //! of the plan, of either form.
 
 pub mod chain;
+pub mod chosen;
 pub mod convert;
 pub mod lock;
 pub mod looks;

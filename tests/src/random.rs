@@ -1,5 +1,6 @@
 //! Random plan texts of both forms, with M lines and without, accepted and damaged ones.
 
+mod chains;
 mod damage;
 mod draft;
 mod form;
@@ -7,6 +8,7 @@ mod masks;
 mod rng;
 mod sample;
 
+pub use chains::{chain_sample, chained, damaged_chained};
 pub use damage::damaged;
 pub use form::{first_form, is_first_form, with_sizes};
 pub use masks::{has_masks, with_everybody, with_masks, without_masks};
