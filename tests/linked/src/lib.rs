@@ -12,4 +12,5 @@ pub mod known;
 pub mod lock;
 pub mod many;
 pub mod moved;
+pub mod seen;
 pub mod speed;

@@ -7,6 +7,7 @@ use crate::check::{self, Difference};
 use crate::convert;
 use crate::fence::Fenced;
 use crate::many::{difference, used_output, used_store};
+use crate::seen::Seen;
 use second::convert::{to_first, to_second, Converter};
 use second::plan::{Form, Refusal, CAPACITY, SLOTS, TEXT_LIMIT};
 use second::random::{first_form, has_masks, plan_of_size, with_sizes, Rng};
@@ -54,10 +55,6 @@ pub fn compare(way: &Way, text: &[u8], output: &[u8]) -> Result<Result<Vec<u8>, 
     Err(format!("{}, output of {}: {what}", way.name, output.len()))
 }
 
-/// Kinds of calls and texts, and how often each was met.
-#[derive(Debug)]
-pub struct Seen(Vec<(String, u64)>);
-
 const LONG_RESULT: &str = "to-second: refused with 6 by its result";
 const JUST_TOO_LONG: &str = "to-second: refused with 6 by a result of 65537";
 const LATER_FAULT: &str = "other sizes and a fault in a later line";
@@ -74,61 +71,42 @@ fn refused(way: &Way, number: u8) -> String {
     kind(way, &format!("refused with {number}"))
 }
 
-impl Default for Seen {
-    /// All kinds, none of them met.
-    fn default() -> Seen {
-        let mut kinds = Vec::new();
-        for way in [TO_SECOND, TO_FIRST] {
-            let results = [
-                "moved",
-                "unchanged",
-                "a result of 65535",
-                "a result of 65536",
-            ];
-            kinds.extend(results.map(|what| kind(&way, what)));
-            kinds.extend([1, 2, 3, 4, 5, 6, 8, 9, 11].map(|number| refused(&way, number)));
-        }
-        kinds.push(refused(&TO_FIRST, 10));
-        let others = [LONG_RESULT, JUST_TOO_LONG, LATER_FAULT];
-        kinds.extend(others.map(String::from));
-        kinds.extend([BACK, REPORTED, TIED, TIED_REPORTED].map(String::from));
-        Seen(kinds.into_iter().map(|kind| (kind, 0)).collect())
+/// All kinds of calls and texts, none of them met.
+pub fn nothing_seen() -> Seen {
+    let mut kinds = Vec::new();
+    for way in [TO_SECOND, TO_FIRST] {
+        let results = [
+            "moved",
+            "unchanged",
+            "a result of 65535",
+            "a result of 65536",
+        ];
+        kinds.extend(results.map(|what| kind(&way, what)));
+        kinds.extend([1, 2, 3, 4, 5, 6, 8, 9, 11].map(|number| refused(&way, number)));
     }
+    kinds.push(refused(&TO_FIRST, 10));
+    let others = [LONG_RESULT, JUST_TOO_LONG, LATER_FAULT];
+    kinds.extend(others.map(String::from));
+    kinds.extend([BACK, REPORTED, TIED, TIED_REPORTED].map(String::from));
+    Seen::none_of(kinds)
 }
 
-impl Seen {
-    fn add(&mut self, kind: &str) {
-        let known = self.0.iter_mut().find(|(known, _)| known == kind);
-        known.unwrap_or_else(|| panic!("no kind: {kind}")).1 += 1;
-    }
-
-    fn add_answer(&mut self, way: &Way, text: &[u8], answer: &Result<Vec<u8>, Refusal>) {
-        match answer {
-            Ok(result) => {
-                let changed = if result == text { "unchanged" } else { "moved" };
-                self.add(&kind(way, changed));
-                if result.len() >= TEXT_LIMIT - 1 {
-                    self.add(&kind(way, &format!("a result of {}", result.len())));
-                }
+fn add_answer(seen: &mut Seen, way: &Way, text: &[u8], answer: &Result<Vec<u8>, Refusal>) {
+    match answer {
+        Ok(result) => {
+            let changed = if result == text { "unchanged" } else { "moved" };
+            seen.add(&kind(way, changed));
+            if result.len() >= TEXT_LIMIT - 1 {
+                seen.add(&kind(way, &format!("a result of {}", result.len())));
             }
-            Err(Refusal { number: 6, .. }) if text.len() <= TEXT_LIMIT => {
-                self.add(LONG_RESULT);
-                if text.len() + LONGER == TEXT_LIMIT + 1 {
-                    self.add(JUST_TOO_LONG);
-                }
-            }
-            Err(refusal) => self.add(&refused(way, refusal.number)),
         }
-    }
-
-    pub fn all(&self) -> &[(String, u64)] {
-        &self.0
-    }
-
-    /// Kinds that were met less often than this.
-    pub fn rarer_than(&self, times: u64) -> Vec<&str> {
-        let rare = self.0.iter().filter(|(_, met)| *met < times);
-        rare.map(|(kind, _)| kind.as_str()).collect()
+        Err(Refusal { number: 6, .. }) if text.len() <= TEXT_LIMIT => {
+            seen.add(LONG_RESULT);
+            if text.len() + LONGER == TEXT_LIMIT + 1 {
+                seen.add(JUST_TOO_LONG);
+            }
+        }
+        Err(refusal) => seen.add(&refused(way, refusal.number)),
     }
 }
 
@@ -162,7 +140,7 @@ pub fn compare_text(text: &[u8], rng: &mut Rng, seen: &mut Seen) -> Result<(), S
         let length = result.as_ref().map_or(text.len(), Vec::len);
         for room in (0..2).chain(length.saturating_sub(2)..length + 3) {
             let answer = compare(&way, text, &used_output(room, rng.byte()))?;
-            seen.add_answer(&way, text, &answer);
+            add_answer(seen, &way, text, &answer);
         }
         match result {
             Ok(moved) if moved != text => compare_moved(text, &moved, &back, rng, seen)?,
@@ -220,7 +198,7 @@ fn report(text: &[u8]) -> (u64, Vec<u8>) {
 /// Compares both converters on so many random texts.
 pub fn compare_many(texts: u64, seed: u64) -> Result<Seen, Difference> {
     let mut rng = Rng::new(seed);
-    let mut seen = Seen::default();
+    let mut seen = nothing_seen();
     for _ in 0..texts {
         let text = random_text(&mut rng);
         if let Err(what) = compare_text(&text, &mut rng, &mut seen) {

@@ -3,7 +3,7 @@
 
 use linked::check::Difference;
 use linked::many::used_output;
-use linked::moved::{compare, compare_many, compare_text, Seen, Way, TO_FIRST, TO_SECOND};
+use linked::moved::{compare, compare_many, compare_text, nothing_seen, Way, TO_FIRST, TO_SECOND};
 use second::random::{first_form, plan_of_size, with_sizes, Rng};
 use second::text::lines;
 
@@ -22,7 +22,7 @@ fn converted(way: &Way, text: &[u8], room: usize) -> Result<Vec<u8>, (u8, u64)> 
 
 /// Compares both ways with all outputs that matter.
 fn same(text: &[u8]) {
-    let (rng, seen) = (&mut Rng::new(1), &mut Seen::default());
+    let (rng, seen) = (&mut Rng::new(1), &mut nothing_seen());
     compare_text(text, rng, seen).unwrap_or_else(|what| panic!("{what}: {}", shown(text)));
 }
 
