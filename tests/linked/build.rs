@@ -10,8 +10,8 @@ use std::{
     process::exit,
 };
 
-const LIBRARIES: &[&str] = &["lock_c", "bench_c", "convert_c"];
-const LATER: &[&str] = &["convert_c"];
+const LIBRARIES: &[&str] = &["lock_c", "bench_c", "convert_c", "chain_c"];
+const LATER: &[&str] = &["convert_c", "chain_c"];
 
 fn main() {
     let package = env::var("CARGO_MANIFEST_DIR").expect("cargo sets it");

@@ -16,7 +16,7 @@ pub fn to_first(text: &[u8], output: &mut [u8]) -> Result<usize, Refusal> {
     written(unsafe { salfunye_to_first(text.as_ptr(), text.len(), room, length) })
 }
 
-fn written(answer: AnswerC) -> Result<usize, Refusal> {
+pub(crate) fn written(answer: AnswerC) -> Result<usize, Refusal> {
     if answer.number == 0 {
         assert_eq!(answer.line, 0, "a result has no line");
         return Ok(usize::try_from(answer.length).expect("a length fits"));

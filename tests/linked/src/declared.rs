@@ -160,3 +160,17 @@ pub mod convert_c {
         ) -> AnswerC;
     }
 }
+
+/// `crates/chain_c/src/lib.rt`; its answer is that of the converters.
+pub mod chain_c {
+    use super::convert_c::AnswerC;
+
+    extern "C" {
+        pub fn salfunye_chain(
+            text: *const u8,
+            text_length: usize,
+            output: *mut u8,
+            output_length: usize,
+        ) -> AnswerC;
+    }
+}

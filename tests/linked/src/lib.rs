@@ -1,9 +1,12 @@
 //! The proved functions as Rust sees them: safe wrappers (`lock`, `bench`,
-//! `convert`), and comparisons with the second implementation: of answers (`check`,
-//! `many`, `moved`) and of times (`speed`). `known` tells builds of different age apart.
+//! `convert`, `chain`), and comparisons with the second implementation: of answers
+//! (`check`, `many`, `moved`, `chained`) and of times (`speed`). `known` tells builds of
+//! different age apart.
 
 pub mod arguments;
 pub mod bench;
+pub mod chain;
+pub mod chained;
 pub mod check;
 pub mod convert;
 mod declared;
