@@ -1,9 +1,13 @@
 //! compare COUNT SEED: has the proof checker compute the bench's definitions on COUNT random plans
 //! and holds each whole answer to this implementation's: of a check (acceptance or refusal, looks),
 //! of a run (report or refusal, picks, store, output) and of both converters (length or refusal,
-//! output). Says how many of the plans are accepted with M lines, in how many runs an owner serves
-//! or takes otherwise because of them, and how many reports have `>` in their L line.
+//! output); and on COUNT smaller ones, whose chains can all be listed, that of the longest chain.
+//! Says how many of the plans are accepted with M lines, in how many runs an owner serves or takes
+//! otherwise because of them, how many reports have `>` in their L line, and how many chains were
+//! chosen among equal sums.
 
+use second::chain::{longest_chain, LONGEST_LINE};
+use second::chosen::Chosen;
 use second::convert::{to_first, to_second, Converter};
 use second::looks::bounds;
 use second::machine::{Machine, Place};
@@ -28,6 +32,9 @@ const REFUSALS: [&str; 11] = [
     "OtherSizes",
     "EmptyMask",
 ];
+/// What is unfolded so that the longest chain is computed, all of it in one module.
+const CHAIN_UNFOLDS: &str =
+    "chainOf longest chains chainsFrom dearest chainCost following conflict every";
 const STORE: usize = 8192;
 const IN_STORE: u64 = 7;
 const IN_OUTPUT: u8 = 255;
@@ -135,21 +142,32 @@ fn checked(seed: u64) -> String {
     )
 }
 
-/// The theorem that a converter's definition gives for a text what this implementation gives; in an
-/// output that is now and then too short.
+/// The theorem that a converter's definition gives for a text what this implementation gives.
 fn moved(seed: u64, name: &str, convert: Converter) -> String {
-    let text = random::sample(seed);
+    let unfolds = format!("afterLine {name}");
+    made(seed, name, &random::sample(seed), convert, &unfolds)
+}
+
+/// The same of the longest chain.
+fn chained(seed: u64) -> String {
+    let text = random::chain_sample(seed);
+    made(seed, "chainOf", &text, longest_chain, CHAIN_UNFOLDS)
+}
+
+/// The theorem that a tool's definition gives for a text what this implementation gives; in an
+/// output that is now and then too short.
+fn made(seed: u64, name: &str, text: &[u8], tool: Converter, unfolds: &str) -> String {
     let mut rng = Rng::new(seed ^ 0xf0);
-    let length = convert(&text, &mut vec![0; text.len() + 8]).unwrap_or(text.len());
-    let mut output = vec![IN_OUTPUT; (length + rng.index(6)).saturating_sub(2)];
-    let answer = match convert(&text, &mut output) {
+    let length = tool(text, &mut vec![0; text.len() + LONGEST_LINE]).unwrap_or(text.len());
+    let mut output = vec![IN_OUTPUT; (length + rng.index(12)).saturating_sub(2)];
+    let answer = match tool(text, &mut output) {
         Ok(length) => format!("tools.Writes {length}"),
         Err(no) => format!("tools.{}", refuses(no)),
     };
     format!(
-        "{name}-{seed} : converted (replicate {} {IN_OUTPUT}) ({name} ({}))\n    ≡ record {{ answer = {answer}; output = {} }}\nunfolding computed converted afterLine {name}\n{name}-{seed} = refl\n\n",
+        "{name}-{seed} : converted (replicate {} {IN_OUTPUT}) ({name} ({}))\n    ≡ record {{ answer = {answer}; output = {} }}\nunfolding computed converted {unfolds}\n{name}-{seed} = refl\n\n",
         output.len(),
-        list(&text, None),
+        list(text, None),
         left(&output),
     )
 }
@@ -196,6 +214,12 @@ fn spoken_for(seed: u64) -> bool {
     done.is_ok_and(|done| output[..done.length].contains(&b'>'))
 }
 
+/// Whether a chain is chosen among equal sums.
+fn chosen_among_equals(seed: u64) -> bool {
+    let plan = check(&random::chain_sample(seed));
+    plan.is_ok_and(|plan| Chosen::of(&plan.tasks).among_equals)
+}
+
 fn module(first: u64, count: u64) -> String {
     let mut out = String::from(
         "use mathlib.Core.Path.{_≡_, refl}\nuse mathlib.Core.List.{[], _∷_, _++_}\nuse lib.ListN.{replicate}\n",
@@ -209,12 +233,18 @@ fn module(first: u64, count: u64) -> String {
     out.push_str(
         "use Rattle.text.specs.LineEnds.{linesSize}\nuse Rattle.reader.specs.Verdict.{told}\n",
     );
-    out.push_str("use Rattle.tools.specs.declared.Answer.the-variants as tools\nuse Rattle.tools.specs.Result.{written as converted}\nuse Rattle.convert.specs.Convert.{afterLine, toSecond, toFirst}\n\n");
+    out.push_str("use Rattle.tools.specs.declared.Answer.the-variants as tools\nuse Rattle.tools.specs.Result.{written as converted}\nuse Rattle.convert.specs.Convert.{afterLine, toSecond, toFirst}\n");
+    let _ = writeln!(
+        out,
+        "use Rattle.chain.specs.Longest.{{{}}}\n",
+        CHAIN_UNFOLDS.replace(' ', ", ")
+    );
     for seed in first..first + count {
         out.push_str(&checked(seed));
         out.push_str(&theorem(seed));
         out.push_str(&moved(seed, "toSecond", to_second));
         out.push_str(&moved(seed, "toFirst", to_first));
+        out.push_str(&chained(seed));
     }
     out
 }
@@ -242,7 +272,7 @@ fn lay_out(root: &Path, text: &str) -> std::io::Result<PathBuf> {
     let listed = std::fs::read_to_string(root.join("crates.txt"))?;
     std::fs::write(
         room.join("crates.txt"),
-        format!("{listed}\ncompared: text refusals reader play bench tools convert\n"),
+        format!("{listed}\ncompared: text refusals reader play bench tools convert chain\n"),
     )?;
     let compared = room.join("crates/compared");
     std::fs::create_dir_all(compared.join("src"))?;
@@ -281,10 +311,11 @@ fn main() {
         let seeds = seed..seed + count;
         let all: Vec<(bool, bool)> = seeds.clone().map(tied).collect();
         println!(
-            "compare: {count} plans from seed {seed}, {} with M lines, which changed {} runs, {} reports with `>`, no difference",
+            "compare: {count} plans from seed {seed}, {} with M lines, which changed {} runs, {} reports with `>`, {} chains chosen among equal sums, no difference",
             all.iter().filter(|(masks, _)| *masks).count(),
             all.iter().filter(|(_, changed)| *changed).count(),
-            seeds.filter(|&seed| spoken_for(seed)).count()
+            seeds.clone().filter(|&seed| spoken_for(seed)).count(),
+            seeds.filter(|&seed| chosen_among_equals(seed)).count()
         );
     } else {
         print!(
