@@ -8,8 +8,9 @@ use Rattle.plan.specs.Plan.{Task}
 use Rattle.plan.specs.Chains.{noTask, taskAt, Follow}
 use Rattle.kept.specs.declared.tasks.Row.{Row}
 use Rattle.kept.specs.Tasks.{rowAt}
+use Rattle.chain.specs.Short.{follow-cheap}
 use Rattle.chain.specs.Links.{Kept, Found, Known, Rising}
-use Rattle.chain.proofs.Scan.{follow-cheap, known-more, known-rising}
+use Rattle.chain.proofs.Scan.{known-more, known-rising}
 
 -- the code counts down: what is known from i on is known behind i - 1
 pub known-behind : {ts : List Task} {sums nexts : List ℕ} (i : ℕ) → 0 < i → Known ts sums nexts i → Known ts sums nexts (suc (i - 1))

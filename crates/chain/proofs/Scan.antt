@@ -1,5 +1,5 @@
 -- The longest chain of a kind, found by trying first tasks in order: the first of those that cost most stays. Assumes nothing.
-use Prim.Native.Nat.{ℕ, suc, _+_, _*_, _≤_, _<_}
+use Prim.Native.Nat.{ℕ, suc, _+_, _≤_, _<_}
 use native.Mathlib.Omega.{arith}
 use mathlib.Core.Path.{_≡_, refl, sym, ap, _∙_}
 use mathlib.Core.Logic.{_⊎_, inl, inr, ⊎-elim}
@@ -221,15 +221,6 @@ module _ (ts : List Task) where
         sum = getD-set-same sums i (taskAt ts i .cost + cost) 0 a;
       })
       (order i j)
-
-  -- ---- sizes
-
-  -- where no task costs more than 1,000
-  pub follow-cheap : ((k : ℕ) → k < length ts → taskAt ts k .cost ≤ 1000) → (i : ℕ) → i < length ts → (xs : List ℕ) → Follow ts i xs
-      → chainCost ts xs + 1000 * suc i ≤ 1000 * length ts
-  unfolding chainCost
-  follow-cheap cheap i l [] f = omega arith
-  follow-cheap cheap i l (j ∷ js) (a, b, e, f) = omega (arith, cheap j b, follow-cheap cheap j b js f)
 
   -- every next task is a later one
   pub known-rising : (sums nexts : List ℕ) → Known ts sums nexts 0 → Rising nexts (length ts)

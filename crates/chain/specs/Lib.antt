@@ -1,3 +1,4 @@
 pub mod Longest
 pub mod Ordered
 pub mod Links
+pub mod Short
