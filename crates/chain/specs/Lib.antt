@@ -1,4 +1,5 @@
 pub mod Longest
 pub mod Ordered
+pub mod Examples
 pub mod Links
 pub mod Short

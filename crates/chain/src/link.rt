@@ -64,19 +64,19 @@ pub(crate) fn find_first(sums: &[u64], n: usize) -> Link
     if n == 0 {
         return Link { sum: 0, next: 0 };
     }
-    let mut found = Link {
+    let mut first = Link {
         sum: sums[0],
         next: 0,
     };
     let mut j: usize = 1;
     while j < n {
-        if found.sum < sums[j] {
-            found = Link {
+        if first.sum < sums[j] {
+            first = Link {
                 sum: sums[j],
                 next: j,
             };
         }
         j += 1;
     }
-    found
+    first
 }

@@ -1,8 +1,9 @@
 -- Which tasks of a plan conflict, chains of them, and what a chain costs. Where a task graph has the conflicts as its edges, a chain is one
 -- of its paths.
-use Prim.Native.Nat.{ℕ, _+_, _<_}
-use mathlib.Core.Path.{_≡_}
-use mathlib.Core.Bool.{Bool, true, not, _&&_, _||_}
+use Prim.Native.Nat.{ℕ, _+_, _≤_, _<_}
+use native.Mathlib.Omega.{arith}
+use mathlib.Core.Path.{_≡_, refl}
+use mathlib.Core.Bool.{Bool, true, false, not, _&&_, _||_}
 use mathlib.Core.List.{List, [], _∷_}
 use mathlib.Core.Option.{none}
 use lib.ListN.{length, getD}
@@ -41,7 +42,21 @@ module _ (ts : List Task) where
   chainCost [] = 0
   chainCost (i ∷ is) = taskAt ts i .cost + chainCost is
 
+-- a chain doesn't go back
+pub no-way-back : (ts : List Task) (i j : ℕ) (js : List ℕ) → j ≤ i → ¬ Chain ts (i ∷ j ∷ js)
+no-way-back ts i j js l (a, (b, c, e, f)) = omega arith
+
 -- the last task of the chain that begins with task i and goes on so
 abbrev pub lastOf : ℕ → List ℕ → ℕ
 lastOf i [] = i
 lastOf i (j ∷ js) = lastOf j js
+
+-- computed: a writer and a reader of one address conflict, two readers don't, and neither do writers of two addresses
+abbrev touching : Bool → ℕ → Task
+touching writes address = record { label = []; cost = 0; accesses = record { writes = writes; address = address } ∷ []; mask = none }
+
+pub who-conflicts : (conflict (touching true 5) (touching false 5) ≡ true)
+    × (conflict (touching false 5) (touching false 5) ≡ false)
+    × (conflict (touching true 5) (touching true 6) ≡ false)
+unfolding conflict every
+who-conflicts = (refl, refl, refl)

@@ -32,9 +32,6 @@ const REFUSALS: [&str; 11] = [
     "OtherSizes",
     "EmptyMask",
 ];
-/// What is unfolded so that the longest chain is computed, all of it in one module.
-const CHAIN_UNFOLDS: &str =
-    "chainOf longest chains chainsFrom dearest chainCost following conflict every";
 const STORE: usize = 8192;
 const IN_STORE: u64 = 7;
 const IN_OUTPUT: u8 = 255;
@@ -151,7 +148,7 @@ fn moved(seed: u64, name: &str, convert: Converter) -> String {
 /// The same of the longest chain.
 fn chained(seed: u64) -> String {
     let text = random::chain_sample(seed);
-    made(seed, "chainOf", &text, longest_chain, CHAIN_UNFOLDS)
+    made(seed, "chainOf", &text, longest_chain, "computedChain")
 }
 
 /// The theorem that a tool's definition gives for a text what this implementation gives; in an
@@ -234,11 +231,7 @@ fn module(first: u64, count: u64) -> String {
         "use Rattle.text.specs.LineEnds.{linesSize}\nuse Rattle.reader.specs.Verdict.{told}\n",
     );
     out.push_str("use Rattle.tools.specs.declared.Answer.the-variants as tools\nuse Rattle.tools.specs.Result.{written as converted}\nuse Rattle.convert.specs.Convert.{afterLine, toSecond, toFirst}\n");
-    let _ = writeln!(
-        out,
-        "use Rattle.chain.specs.Longest.{{{}}}\n",
-        CHAIN_UNFOLDS.replace(' ', ", ")
-    );
+    out.push_str("use Rattle.chain.specs.Longest.{chainOf}\nuse Rattle.chain.specs.Examples.{computedChain}\n\n");
     for seed in first..first + count {
         out.push_str(&checked(seed));
         out.push_str(&theorem(seed));

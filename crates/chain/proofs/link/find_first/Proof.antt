@@ -14,13 +14,13 @@ use Rattle.chain.proofs.link.find_first.Statement.{statement}
 use Rattle.chain.proofs.link.find_first.Tie as tie
 
 abbrev Inv-loop : tie.InvT-loop
-Inv-loop sums n found₀ j₀ found j =
+Inv-loop sums n first₀ j₀ first j =
     (j ≤ n)
     × ((ts : List Task) (nexts : List ℕ) → n ≡ length ts → Known ts sums nexts 0
-    → Found ts nexts (Upto ts (There ts) ⊥ j) (found .sum) (found .next))
+    → Found ts nexts (Upto ts (There ts) ⊥ j) (first .sum) (first .next))
 
 abbrev μ-loop : tie.MeasureT-loop
-μ-loop sums n found₀ j₀ found j = n - j
+μ-loop sums n first₀ j₀ first j = n - j
 
 returns : tie.Need-returns Inv-loop μ-loop
 returns c ts nexts e known = first-nothing ts (sym e ∙ c .if1 .taken)
@@ -64,8 +64,8 @@ loop-again c =
           let at = known (turn .j) (omega arith) low in
           rw (add-one (turn .j))
           (⊎-elim
-          (λ (taken, slice, is). found-link (c .if2 .found) is (found-more ts (There ts) ⊥ low at found low (taken .taken)))
-          (λ (left, is). found-link (c .if2 .found) is (found-same ts (There ts) ⊥ low at found (λ _. left .left)))
+          (λ (taken, slice, is). found-link (c .if2 .first) is (found-more ts (There ts) ⊥ low at found low (omega (arith, taken .taken))))
+          (λ (left, is). found-link (c .if2 .first) is (found-same ts (There ts) ⊥ low at found (λ _. left .left)))
           (c .if2 .came)),
     )
 

@@ -110,7 +110,7 @@ loop-again c =
           (λ (dearer, tested, joins, slice, is).
           found-link (c .if1 .found) is
           (more (turn .inv .0, low, sym (tested .ensures (kept .text) (taskAt ts i) (taskAt ts (turn .j)) first second) ∙ joins .taken)
-          (dearer .taken)))
+          (omega (arith, dearer .taken))))
           (⊎-elim
           (λ (dearer, tested, apart, is).
           found-link (c .if1 .found) is
