@@ -10,6 +10,7 @@ pub mod Fair
 pub mod Rounds
 pub mod Traces
 pub mod Near
+pub mod Apart
 pub mod Circular
 pub mod Masks
 pub mod Stores

@@ -2,12 +2,12 @@
 -- Proofs along such a list.
 use Prim.Native.Nat.{ℕ, suc, _+_, _≤_, _<_}
 use native.Mathlib.Omega.{arith}
-use mathlib.Core.Path.{_≡_, refl}
+use mathlib.Core.Path.{_≡_, refl, ap}
 use mathlib.Core.Bool.{Bool, true, false}
-use mathlib.Core.List.{List, [], _∷_}
+use mathlib.Core.List.{List, [], _∷_, map}
 use mathlib.Core.Logic.{_⊎_, inl, inr, ⊎-elim}
 use mathlib.Core.Option.{some}
-use lib.ListN.{length, getElem?}
+use lib.ListN.{length, take, getElem?}
 use lib.Dec.{eqb}
 use Rattle.runs.specs.Update.{order}
 use Rattle.runs.specs.Picks.{Picks, picks-drop, run}
@@ -18,6 +18,10 @@ pub record Happening (E : Type 0) : Type 0 where
   pub what : E
 
 module _ {E : Type 0} where
+  -- by whom, in the same order
+  abbrev pub workersOf : List (Happening E) → List ℕ
+  workersOf = map (λ h. h .by)
+
   -- how often something happens: the sum of what each event counts for
   unfoldable pub tally : (E → ℕ) → List (Happening E) → ℕ
   tally f [] = 0
@@ -63,6 +67,20 @@ module _ {S : Type 0} (finished : S → Bool) (step : S → ℕ → S) where
     unfoldable pub trace : S → List ℕ → List (Happening E)
     trace s [] = []
     trace s (w ∷ ws) = elim (finished s) [ true ↦ [] | false ↦ record { by = w; what = event s w } ∷ trace (step s w) ws ]
+
+    -- what happens is by the workers of the list, as far as its picks are taken
+    pub trace-workers : (ws : List ℕ) (s : S) → workersOf (trace s ws) ≡ take (length (trace s ws)) ws
+    unfolding trace
+    trace-workers [] s = refl
+    trace-workers (w ∷ ws) s = go (finished s) (trace-workers ws (step s w))
+      where
+        taken : Bool → List (Happening E)
+        taken b = elim b [ true ↦ [] | false ↦ record { by = w; what = event s w } ∷ trace (step s w) ws ]
+
+        go : (b : Bool) → workersOf (trace (step s w) ws) ≡ take (length (trace (step s w) ws)) ws
+            → workersOf (taken b) ≡ take (length (taken b)) (w ∷ ws)
+        go true e = refl
+        go false e = ap {B = List ℕ} (λ r. w ∷ r) e
 
     -- R ties a first state, what happens, and a last state
     pub along : (W : ℕ) (Inv : S → Type 0) (R : S → List (Happening E) → S → Type 0)
