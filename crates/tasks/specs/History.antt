@@ -4,7 +4,7 @@
 use Prim.Native.Nat.{ℕ, zero, suc, _+_, _-_, _≤_, _<_}
 use mathlib.Core.Path.{_≡_}
 use mathlib.Core.Bool.{Bool, true, false, _&&_, _||_}
-use mathlib.Core.List.{List, [], _∷_, _++_, map}
+use mathlib.Core.List.{List, [], _∷_, _++_, map, List·Memᴰ}
 use mathlib.Core.Option.{Option, none, some}
 use lib.ListN.{length}
 use lib.Dec.{eqb, ltb}
@@ -287,6 +287,11 @@ pub data Run (W : ℕ) (ts : List Task) (t : Tasks) (st : ℕ → Stand) : List 
 unfoldable pub tally : (Op → ℕ) → List Move → ℕ
 tally f [] = 0
 tally f (m ∷ ms) = f (m .op) + tally f ms
+
+-- the moves come one after another in time, and those of one worker are at least M apart
+abbrev pub Spaced : ℕ → List Move → Type 0
+Spaced M [] = Unit {0}
+Spaced M (m ∷ ms) = ((n : Move) → List·Memᴰ n ms → (n .at < m .at) × (n .by ≡ m .by → n .at + M ≤ m .at)) × Spaced M ms
 
 -- from the start, with nobody at a task
 abbrev pub History : ℕ → List Task → List Move → Tasks → (ℕ → Stand) → Type 0

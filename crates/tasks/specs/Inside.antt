@@ -17,3 +17,4 @@ pub mod Lists
 pub mod Histories
 pub mod Brought
 pub mod Worked
+pub mod Spans

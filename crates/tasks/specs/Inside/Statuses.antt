@@ -5,10 +5,11 @@ use mathlib.Core.Path.{_≡_, refl, sym, ap, _∙_}
 use mathlib.Core.Logic.{_⊎_, inl, inr, ⊎-elim, _≢_}
 use mathlib.Core.Bool.{Bool, true, false}
 use lib.Dec.{eqb, leb}
-use borrow.Author.Tests.{eqb-true, leb-false, eq-eqb}
+use borrow.Author.Tests.{eqb-true, leb-true, leb-false, eq-eqb, le-leb}
 use Rattle.runs.specs.Update.{same}
 use Rattle.runs.specs.Counts.{one, one-true}
 use Rattle.tasks.specs.Tasks.{Status, new, waiting, ready, held, running, over, stage, isReady, isHeld, isRunning}
+use Rattle.tasks.specs.Tasks.{pastWaiting, isReceived}
 
 -- the status at a stage
 atStage : ℕ → Status
@@ -55,6 +56,9 @@ passed-by n a b l = go (eqb n b) refl (leb a n) refl
     go true e true d = omega arith
     go true e false d = absurd (omega (arith, eqb-true n b e, leb-false a n d))
     go false e q d = omega arith
+
+pub received-past : (x : Status) → 0 < isReceived x → pastWaiting x ≡ 1
+received-past x l = ap one (le-leb 2 (stage x) (omega (arith, leb-true 4 (stage x) (one-true _ l))))
 
 pub waiting-or-not : (x : Status) → (x ≡ waiting) ⊎ (x ≢ waiting)
 waiting-or-not x = ⊎-elim (λ e. inl (stage-same x waiting e)) (λ n. inr (λ e. n (ap stage e))) (same (stage x) 1)
