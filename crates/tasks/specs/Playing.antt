@@ -5,19 +5,21 @@ use native.Mathlib.Omega.{arith}
 use mathlib.Core.Path.{_≡_, refl, sym, ap, subst, _∙_, fun-ext}
 use mathlib.Core.Logic.{⊎-elim, _≢_}
 use mathlib.Core.Bool.{Bool, true, false, not, _&&_}
-use mathlib.Core.List.{List, [], _∷_, _++_, List·Memᴰ, List·Memᴰ·head, append-nil}
+use mathlib.Core.List.{List, [], _∷_, _++_, List·Memᴰ, List·Memᴰ·head, List·Memᴰ·tail, append-nil}
 use mathlib.Core.Option.{Option, none, some}
-use lib.ListN.{length, getElem?}
+use lib.ListN.{length, getElem?, length-map}
 use lib.Dec.{eqb}
 use Rattle.runs.specs.Update.{upd, upd-other, clash}
 use borrow.Author.Tests.{eq-eqb}
 use Rattle.runs.specs.Below.{everyBelow, every-at, every-below, some-below}
 use Rattle.runs.specs.Members.{mem-left, mem-right, mem-either}
-use Rattle.runs.specs.Picks.{Picks, run}
+use Rattle.runs.specs.Picks.{Picks, pick, run}
+use Rattle.runs.specs.Apart.{Apart, apart-one}
 use Rattle.runs.specs.Sums.{sum}
 use Rattle.runs.specs.Traces as Traces
-use Rattle.runs.specs.Traces.{Happening}
+use Rattle.runs.specs.Traces.{Happening, workersOf}
 use Rattle.plan.specs.Plan.{Task}
+use Rattle.plan.specs.Chains.{conflict, Chain, chainCost, lastOf}
 use Rattle.tasks.specs.Accesses.{Distinct, taskAt}
 use Rattle.tasks.specs.Flags.{Flags, each}
 use Rattle.tasks.specs.Tasks.{Created, Stand, free, telling, working, over, Tasks, isOver, isHeld, isReceived, isEnded, leftInHand}
@@ -200,15 +202,43 @@ module _ {E : Type 0} (taskOp : E → Option H.Op) where
       mem-left (moves (suc n) hs) _
       (subst (λ m. List·Memᴰ (record { by = h .by; at = m; op = op }) (moves (suc n) hs)) u (at-move (suc n) hs k h e op q))
 
-  -- no move is later than the last pick
-  late-by : (w n : ℕ) (o : Option H.Op) (m : H.Move) → List·Memᴰ m (movesBy w n o) → m .at ≤ n
-  late-by w n (some op) m (List·Memᴰ·head e) = rw e (omega arith)
+  -- and the pick of a move
+  of-pick : (w n : ℕ) (o : Option H.Op) (m : H.Move) → List·Memᴰ m (movesBy w n o) → (m .by ≡ w) × (m .at ≡ n)
+  of-pick w n (some op) m (List·Memᴰ·head e) = rw e (refl, refl)
 
-  late-moves : (n : ℕ) (hs : List (Happening E)) (m : H.Move) → List·Memᴰ m (moves n hs) → m .at ≤ length hs + n
+  at-pick : (n : ℕ) (hs : List (Happening E)) (m : H.Move) → List·Memᴰ m (moves n hs)
+      → (k : ℕ) × (k < length (workersOf hs)) × (m .by ≡ pick (workersOf hs) k) × (m .at ≡ suc (k + n))
   unfolding moves
-  late-moves n (x ∷ hs) m k =
-      ⊎-elim (λ z. omega (arith, late-moves (suc n) hs m z)) (λ z. omega (arith, late-by (x .by) (suc n) (taskOp (x .what)) m z))
-      (mem-either (moves (suc n) hs) (movesBy (x .by) (suc n) (taskOp (x .what))) k)
+  at-pick n (x ∷ hs) m z =
+      ⊎-elim
+      (λ y. let (k, l, b, a) = at-pick (suc n) hs m y in (suc k, omega arith, b, omega arith))
+      (λ y. let (b, a) = of-pick (x .by) (suc n) (taskOp (x .what)) m y in (0, omega arith, b, omega arith))
+      (mem-either (moves (suc n) hs) (movesBy (x .by) (suc n) (taskOp (x .what))) z)
+
+  -- no move is later than the last pick
+  late-moves : (n : ℕ) (hs : List (Happening E)) (m : H.Move) → List·Memᴰ m (moves n hs) → m .at ≤ length hs + n
+  late-moves n hs m z = let (k, l, b, a) = at-pick n hs m z in omega (arith, length-map hs (λ h. h .by))
+
+  -- where each worker's picks are at least M apart, so are its moves
+  spaced-by : (M w n : ℕ) (o : Option H.Op) (ms : List H.Move) → H.Spaced M ms
+      → ((m : H.Move) → List·Memᴰ m ms → (n < m .at) × (w ≡ m .by → n + M ≤ m .at)) → H.Spaced M (ms ++ movesBy w n o)
+  spaced-by M w n none [] s f = tt
+  spaced-by M w n (some op) [] s f = (λ m z. elim z [ ], tt)
+  spaced-by M w n o (m ∷ ms) (new, old) f = (
+    λ x z.
+        ⊎-elim (new x) (λ y. let (b, a) = of-pick w n o x y in rw (b, a) (f m (List·Memᴰ·head refl))) (mem-either ms (movesBy w n o) z),
+    spaced-by M w n o ms old (λ x z. f x (List·Memᴰ·tail z)),
+  )
+
+  pub spaced : (M n : ℕ) (hs : List (Happening E)) → Apart M (workersOf hs) → H.Spaced M (moves n hs)
+  unfolding moves
+  spaced M n [] a = tt
+  spaced M n (x ∷ hs) a =
+      spaced-by M (x .by) (suc n) (taskOp (x .what)) (moves (suc n) hs)
+      (spaced M (suc n) hs (λ i j l b e. omega (arith, a (suc i) (suc j) (omega arith) (omega arith) e)))
+      (λ m z.
+      let (k, l, b, t) = at-pick (suc n) hs m z in
+      (omega arith, λ e. omega (arith, a 0 (suc k) (omega arith) (omega arith) (e ∙ b))))
 
   -- what is counted is an operation
   counted : (f : H.Op → ℕ) (o : Option H.Op) → 0 < by f o → (op : H.Op) × (o ≡ some op) × (0 < f op)
@@ -262,6 +292,24 @@ module _ {E : Type 0} (taskOp : E → Option H.Op) where
     -- where there is a worker at all: what is noted is a worker's number, and no later than the last pick
     pub noted : 0 < W → (t .runner i < W) × (t .receipt i ≤ length hs) × (t .ending i ≤ length hs)
     noted any = Promise.noted-within d history i any (length hs) (λ m k. omega (arith, late-moves 0 hs m k))
+
+  -- how long tasks take, in picks
+  module _ {W : ℕ} {ts : List Task} (d : Distinct ts) (hs : List (Happening E)) {t : Tasks} {st : ℕ → Stand}
+      (history : H.History W ts (moves 0 hs) t st) where
+    -- a task is received after every earlier one that conflicts with it has ended
+    pub received-after : (i j : ℕ) → i < j → j < length ts → conflict (taskAt ts i) (taskAt ts j) ≡ true → 0 < isReceived (t .status j)
+        → t .ending i < t .receipt j
+    received-after = Promise.received-after d history 1 (spaced 1 0 hs (apart-one (workersOf hs)))
+
+    -- where each worker's picks are at least M apart, so much lies between the receipt of a task and its ending
+    module _ (M : ℕ) (apart : Apart M (workersOf hs)) where
+      pub span : (i : ℕ) → t .status i ≡ over → t .receipt i + suc (taskAt ts i .cost) * M ≤ t .ending i
+      span = Promise.span d history M (spaced M 0 hs apart)
+
+      -- and between the two ends of a chain
+      pub chain-span : (i : ℕ) (is : List ℕ) → Chain ts (i ∷ is) → t .status (lastOf i is) ≡ over
+          → t .receipt i + (chainCost ts (i ∷ is) + length (i ∷ is)) * M ≤ t .ending (lastOf i is)
+      chain-span = Promise.chain-span d history M (spaced M 0 hs apart)
 
   -- ---- every list of picks of a device is such a history
 

@@ -13,14 +13,14 @@ use Rattle.runs.specs.Sums.{sum}
 use Rattle.runs.specs.Counts.{one-le, count}
 use Rattle.plan.specs.Orders.{numbersFrom}
 use Rattle.plan.specs.Plan.{Task}
-use Rattle.plan.specs.Chains.{conflict}
+use Rattle.plan.specs.Chains.{conflict, Chain, chainCost, lastOf}
 use Rattle.tasks.specs.Accesses.{noAccess, taskOf, taskAt, accessAt, first, reader, prev, next}
 use Rattle.tasks.specs.Flags.{noFlag, Flags, each, sent, with, passesRead, passesWrite}
 use Rattle.tasks.specs.Tasks.{Message, Stand, free, telling, working, Status, new, waiting, ready, held, running, over, opening}
 use Rattle.tasks.specs.Tasks.{Tasks, start, withAdds, withCount, withStatus, stage, isOver, isReady, isHeld, isRunning, pastWaiting}
 use Rattle.tasks.specs.Tasks.{isReceived, isEnded, opened, linked, inHand, leftInHand, toAdd, given}
 use Rattle.tasks.specs.History.{Op, gives, Can, lowered, doneMessages, after, standAfter, gave, took, heldOut, fetched, isReceipt}
-use Rattle.tasks.specs.History.{isEnding, isWork, brings, isGive, quiet, Move, Run, tally, History}
+use Rattle.tasks.specs.History.{isEnding, isWork, brings, isGive, quiet, Move, Run, tally, Spaced, History}
 use Rattle.tasks.specs.Inside.Statuses as statuses
 use Rattle.tasks.specs.Inside.Links as links
 use Rattle.tasks.specs.Inside.Rights as rights
@@ -37,6 +37,7 @@ use Rattle.tasks.specs.Inside.Work as work
 use Rattle.tasks.specs.Inside.Histories as histories
 use Rattle.tasks.specs.Inside.Brought as came
 use Rattle.tasks.specs.Inside.Worked as labour
+use Rattle.tasks.specs.Inside.Spans as spans
 -- the words of the laws
 pub use Rattle.tasks.specs.Accesses.{total, addr, totalCost, Distinct}
 pub use Rattle.tasks.specs.Flags.{Once, NoneTwice, RightsOnly}
@@ -171,6 +172,11 @@ module _ {W : ℕ} {ts : List Task} {t : Tasks} {st : ℕ → Stand} (v : Kept W
   pub in-order : (i j : ℕ) → i < j → j < length ts → conflict (taskAt ts i) (taskAt ts j) ≡ true → pastWaiting (t .status j) ≡ 1
       → t .status i ≡ over
   in-order = inOrder.earlier-over W ts (v .inv .links) t st (v .inv .counts) (v .inv .messages) (v .inv .counting)
+
+  -- so once the last task of a chain is over, all of its tasks are
+  pub chain-over : (i : ℕ) (is : List ℕ) → Chain ts (i ∷ is) → t .status (lastOf i is) ≡ over
+      → (j : ℕ) → List·Memᴰ j (i ∷ is) → t .status j ≡ over
+  chain-over = spans.chain-over (v .inv)
 
   -- where all tasks are created, every mailbox is empty and no task is ready, held or run, every task is over
   pub nothing-stuck : (n : ℕ) → t .creation ≡ opening n → length ts ≤ n → ((w : ℕ) → w < W → t .mail w ≡ [])
@@ -369,6 +375,22 @@ module _ {W : ℕ} {ts : List Task} (d : Distinct ts) {ms : List Move} {t : Task
     pub noted-within : 0 < W → (n : ℕ) → ((m : Move) → List·Memᴰ m ms → m .at ≤ n)
         → (t .runner i < W) × (t .receipt i ≤ n) × (t .ending i ≤ n)
     noted-within any n late = histories.noted-within (links.links ts d) i any n history late
+
+  -- where the moves come one after another in time, and those of one worker are at least M apart
+  module _ (M : ℕ) (spaced : Spaced M ms) where
+    -- every step of work on a task is a move of its runner, and so are its receipt and its ending
+    pub span : (i : ℕ) → t .status i ≡ over → t .receipt i + suc (taskAt ts i .cost) * M ≤ t .ending i
+    span i = spans.span (links.links ts d) M i history spaced
+
+    -- a task is received after every earlier one that conflicts with it has ended
+    pub received-after : (i j : ℕ) → i < j → j < length ts → conflict (taskAt ts i) (taskAt ts j) ≡ true → 0 < isReceived (t .status j)
+        → t .ending i < t .receipt j
+    received-after i j l b x = spans.received-after (links.links ts d) M i j l b x history spaced
+
+    -- so the tasks of a chain come one after another
+    pub chain-span : (i : ℕ) (is : List ℕ) → Chain ts (i ∷ is) → t .status (lastOf i is) ≡ over
+        → t .receipt i + (chainCost ts (i ∷ is) + length (i ∷ is)) * M ≤ t .ending (lastOf i is)
+    chain-span = spans.chain-span (links.links ts d) M history spaced
 
 -- ---- statuses
 

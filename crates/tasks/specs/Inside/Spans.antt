@@ -2,7 +2,7 @@
 use Prim.Native.Nat.{ℕ, zero, suc, _+_, _*_, _≤_, _<_}
 use native.Mathlib.Omega.{arith}
 use mathlib.Core.Path.{_≡_, refl, ap}
-use mathlib.Core.Logic.{_⊎_, ⊎-elim, _≢_}
+use mathlib.Core.Logic.{⊎-elim}
 use mathlib.Core.Bool.{true}
 use mathlib.Core.List.{List, [], _∷_, List·Memᴰ, List·Memᴰ·head, List·Memᴰ·tail}
 use mathlib.Core.Option.{Option, none, some}
@@ -26,7 +26,7 @@ use Rattle.tasks.specs.Inside.Histories.{receipt-past, always, endings, 
 
 -- ---- a task in hand
 
--- what worker w has in hand: each step of work done on it was a move of w's own, the latest of them so long after the receipt
+-- who has a task in hand made a move so long after the receipt: each step of work that is done was a move of its own
 abbrev Since : ℕ → List Task → (ℕ → ℕ) → List Move → ℕ → Stand → Type 0
 Since M ts receipt ms w free = Unit {0}
 Since M ts receipt ms w (telling a f) = Unit {0}
@@ -75,28 +75,29 @@ module _ (M : ℕ) {W : ℕ} {ts : List Task} {t : Tasks} {st : ℕ → Stand} (
         let (_, e) = noted (change v w hw time can i) .received l in
         (0, omega arith, (_, List·Memᴰ·head refl, refl, omega arith))
 
-    -- of the worker that moves
-    own : {op : Op} → Can W ts t (st w) w op → Since M ts (t .receipt) ms w (st w) → Next op w (standAfter ts (st w) op)
-    own (can-mind (can-open j e l)) h = as-before (can-mind (can-open j e l)) w hw (st w) refl h
-    own (can-mind (can-link j a e l p q)) h = as-before (can-mind (can-link j a e l p q)) w hw (st w) refl h
-    own (can-mind (can-close j a e l)) h = as-before (can-mind (can-close j a e l)) w hw (st w) refl h
-    own (can-mind (can-deliver m ns p q)) h = since-notice M ts _ _ w m (m .sender)
-    own (can-mind (can-tell a f p)) h = tt
-    own (can-give j js p) h = as-before (can-give j js p) w hw (st w) refl h
-    own (can-hold j g) h = as-before (can-hold j g) w hw (st w) refl h
-    own (can-take j p q g) h = at-receipt (can-take j p q g) j (omega (arith, is-same j j refl))
-    own (can-receive j p q e) h = at-receipt (can-receive j p q e) j (omega (arith, is-same j j refl))
-    own (can-mind (can-work j n p)) h =
+    -- of the worker that moves; `same` is for an operation after which it stands as before
+    own : {op : Op} → Can W ts t (st w) w op → Since M ts (t .receipt) ms w (st w) → (same : Next op w (st w))
+        → Next op w (standAfter ts (st w) op)
+    own (can-mind (can-open j e l)) h same = same
+    own (can-mind (can-link j a e l p q)) h same = same
+    own (can-mind (can-close j a e l)) h same = same
+    own (can-mind (can-deliver m ns p q)) h same = since-notice M ts _ _ w m (m .sender)
+    own (can-mind (can-tell a f p)) h same = tt
+    own (can-give j js p) h same = same
+    own (can-hold j g) h same = same
+    own (can-take j p q g) h same = at-receipt (can-take j p q g) j (omega (arith, is-same j j refl))
+    own (can-receive j p q e) h same = at-receipt (can-receive j p q e) j (omega (arith, is-same j j refl))
+    own (can-mind (can-work j n p)) h same =
         let (done, s, (m, k, b, far)) = rw p at h in
         let e = stays (can-mind (can-work j n p)) w j (suc n) hw p in
         (suc done, omega arith, (_, List·Memᴰ·head refl, refl, omega (arith, apart m k b)))
-    own (can-mind (can-end j p)) h = tt
+    own (can-mind (can-end j p)) h same = tt
 
     since-step : {op : Op} → Can W ts t (st w) w op → ((u : ℕ) → u < W → Since M ts (t .receipt) ms u (st u))
         → (u : ℕ) → u < W → Next op u (upd st w (standAfter ts (st w) op) u)
     since-step {op} can h =
-        upd-all (λ u x. u < W → Next op u x) st w (standAfter ts (st w) op) (λ l. own can (h w hw))
-        (λ u n l. as-before can u l (st u) refl (h u l))
+        let kept : (u : ℕ) → u < W → Next op u (st u) = λ u l. as-before can u l (st u) refl (h u l) in
+        upd-all (λ u x. u < W → Next op u x) st w (standAfter ts (st w) op) (λ l. own can (h w hw) (kept w hw)) (λ u n. kept u)
 
 -- ---- what lies between
 
@@ -116,7 +117,7 @@ module _ {W : ℕ} {ts : List Task} (laws : Links ts) (M : ℕ) where
   since still s w l = tt
   since (then r w h time op can) (new, old) u l = since-step M (always laws r) w h time (λ m k. new m k .1) can (λ x k. since r old x k) u l
 
-  -- every step of work is a move of the runner's own, and so is the ending
+  -- the ending is one move more
   pub span : (i : ℕ) {ms : List Move} {t : Tasks} {st : ℕ → Stand} → History W ts ms t st → Spaced M ms → t .status i ≡ over
       → t .receipt i + suc (taskAt ts i .cost) * M ≤ t .ending i
   unfolding start
@@ -170,7 +171,7 @@ module _ {W : ℕ} {ts : List Task} (laws : Links ts) (M : ℕ) where
 
 -- ---- chains
 
--- once its last task is over, all of a chain are
+-- from the last task back, by the conflicts
 pub chain-over : {W : ℕ} {ts : List Task} {t : Tasks} {st : ℕ → Stand} → Inv W ts t st → (i : ℕ) (is : List ℕ) → Chain ts (i ∷ is)
     → t .status (lastOf i is) ≡ over → (j : ℕ) → List·Memᴰ j (i ∷ is) → t .status j ≡ over
 chain-over v i [] c o j (List·Memᴰ·head e) = rw e o
@@ -184,7 +185,7 @@ pub chain-span : {W : ℕ} {ts : List Task} (laws : Links ts) (M : ℕ) {ms : Li
     → t .receipt i + (chainCost ts (i ∷ is) + length (i ∷ is)) * M ≤ t .ending (lastOf i is)
 unfolding chainCost
 chain-span laws M r s i [] c o = omega (arith, span laws M i r s o)
-chain-span {ts = ts} laws M r s i (j ∷ js) (l, (a, b, x, f)) o =
+chain-span laws M r s i (j ∷ js) (l, (a, b, x, f)) o =
     let all = chain-over (always laws r) i (j ∷ js) (l, (a, b, x, f)) o in
     let first = all i (List·Memᴰ·head refl) in
     let second = all j (List·Memᴰ·tail (List·Memᴰ·head refl)) in
