@@ -17,4 +17,5 @@ pub mod PlayedLeaders
 pub mod WholeRuns
 pub mod Givers
 pub mod Leaders
+pub mod Chains
 pub mod Ranges

@@ -51,6 +51,11 @@ abbrev pub lastOf : ℕ → List ℕ → ℕ
 lastOf i [] = i
 lastOf i (j ∷ js) = lastOf j js
 
+-- it is a task of the plan
+pub last-below : (ts : List Task) (i : ℕ) (is : List ℕ) → Chain ts (i ∷ is) → lastOf i is < length ts
+last-below ts i [] (l, f) = l
+last-below ts i (j ∷ js) (l, (a, b, x, f)) = last-below ts j js (b, f)
+
 -- computed: a writer and a reader of one address conflict, two readers don't, and neither do writers of two addresses
 abbrev touching : Bool → ℕ → Task
 touching writes address = record { label = []; cost = 0; accesses = record { writes = writes; address = address } ∷ []; mask = none }

@@ -1,6 +1,6 @@
 -- Runs computed up to the figures: with smaller factors the worker would still wait, and the task would still run; and with a worker that
--- is never picked no figure would do.
-use Prim.Native.Nat.{ℕ}
+-- is never picked no figure would do. Runs in which a chain takes no more than the least.
+use Prim.Native.Nat.{ℕ, _+_, _*_}
 use mathlib.Core.Path.{_≡_, refl}
 use mathlib.Core.Bool.{Bool, true, false}
 use mathlib.Core.List.{List, [], _∷_, _++_}
@@ -10,6 +10,7 @@ use lib.Dec.{eqb}
 use Rattle.runs.specs.Sums.{sum}
 use Rattle.lock.specs.History as LH
 use Rattle.plan.specs.Orders.{times}
+use Rattle.plan.specs.Chains.{chainCost}
 use Rattle.machine.specs.State.{Setup}
 use Rattle.machine.specs.Step.{finished, after}
 use Rattle.machine.specs.Whereabouts.{lockStand}
@@ -46,3 +47,22 @@ finished-in-time = refl
 pub unfinished-unpicked : finished (one 2 0) (after (one 2 0) (replicate (finishingFigure (one 2 0) 1) 1)) ≡ false
 unfolding computing sum
 unfinished-unpicked = refl
+
+-- ---- the least that a chain takes
+
+-- worker 1 fills worker 0's cell with the task, and from the receipt on worker 0 alone is picked
+pub exact-alone : let t = after (one 2 1) (0 ∷ 0 ∷ 0 ∷ 1 ∷ 1 ∷ 1 ∷ 0 ∷ 0 ∷ 1 ∷ 1 ∷ 1 ∷ 1 ∷ 0 ∷ 0 ∷ 0 ∷ []) .tasks in
+    eqb (t .receipt 0 + (chainCost (one 2 1 .tasks) (0 ∷ []) + 1)) (t .ending 0) ≡ true
+unfolding computing chainCost
+exact-alone = refl
+
+-- likewise with the workers in turn
+pub exact-in-turn : let t = after (one 2 1) (times 10 (0 ∷ 1 ∷ [])) .tasks in
+    eqb (t .receipt 0 + (chainCost (one 2 1 .tasks) (0 ∷ []) + 1) * 2) (t .ending 0) ≡ true
+unfolding computing chainCost
+exact-in-turn = refl
+
+-- one worker: finished after 110 picks, so twice the cost would be too much
+pub finished-at-110 : (after (one 1 100) (replicate 120 0)) .picks ≡ 110
+unfolding computing
+finished-at-110 = refl
