@@ -1,5 +1,5 @@
 -- What holds of every accepted plan: under every list of picks, and under those of its own order lines.
-use Prim.Native.Nat.{ℕ, _+_, _^_, _≤_, _<_, min}
+use Prim.Native.Nat.{ℕ, _+_, _*_, _^_, _≤_, _<_, min}
 use mathlib.Core.Path.{_≡_, refl, _∙_}
 use mathlib.Core.Logic.{_⊎_, inl, inr, ⊎-elim}
 use mathlib.Core.Bool.{true, false}
@@ -12,7 +12,8 @@ use Rattle.runs.specs.Picks.{Picks, Regular}
 use Rattle.lock.specs.Promise as Lock
 use Rattle.plan.specs.Plan.{slotsOf, Plan}
 use Rattle.plan.specs.Reading.{accepted, reading}
-use Rattle.plan.specs.Orders.{picksOfAll, picksUpTo}
+use Rattle.plan.specs.Orders.{picksOfAll, OnlyRounds, picksUpTo}
+use Rattle.plan.specs.Chains.{Chain, chainCost}
 use Rattle.plan.specs.Accepted.{WellFormed, accepted-well-formed}
 use Rattle.plan.specs.Permits.{anyMasked}
 use Rattle.plan.specs.PermitLaws.{some-permitted}
@@ -27,8 +28,10 @@ use Rattle.machine.specs.Figures.{waitingFigure, finishingFigure}
 use Rattle.machine.specs.WholeRuns.{WholeRun, whole-runs}
 use Rattle.machine.specs.Givers.{Givers, givers}
 use Rattle.machine.specs.Leaders.{Leaders, leaders}
+use Rattle.machine.specs.Chains.{Chains, chains}
 use Rattle.orders.specs.Reached.{setupOf, reached}
 use Rattle.orders.specs.Picked.{picks-below}
+use Rattle.orders.specs.Turns.{picked-in-turn}
 use Rattle.orders.specs.Sizes.{picks-few}
 
 -- head and all wait slots start at the number of slots, the tail one above
@@ -82,6 +85,18 @@ module _ (text : List ℕ) (p : Plan) (e : reading text ≡ accepted p) where
 
   pub own-leaders : (limit : ℕ) → Leaders (setupOf p) (picksUpTo limit p)
   own-leaders limit = accepted-leaders (picksUpTo limit p) (own-picks limit)
+
+  -- how many picks chains take at the least, likewise
+  pub accepted-chains : (ws : List ℕ) → Picks (p .workers) ws → Chains (setupOf p) ws
+  accepted-chains ws h = chains (setupOf p) playable ws h
+
+  pub own-chains : (limit : ℕ) → Chains (setupOf p) (picksUpTo limit p)
+  own-chains limit = accepted-chains (picksUpTo limit p) (own-picks limit)
+
+  -- under R lines alone a finished run took at least W times the cost of every chain, and W more for each task of it
+  pub own-at-least : OnlyRounds (p .orders) → (limit : ℕ) → finished (setupOf p) (reached p limit) ≡ true
+      → (xs : List ℕ) → Chain (p .tasks) xs → p .workers * (chainCost (p .tasks) xs + length xs) ≤ (reached p limit) .picks
+  own-at-least only limit = (own-chains limit) .in-turn (picked-in-turn limit p (formed .workers-some) only)
 
   -- without M lines a run is what it was before there were masks, pick for pick
   pub own-unmasked : anyMasked (p .tasks) ≡ false → (limit : ℕ) → reached p limit ≡ afterBefore (setupOf p) (picksUpTo limit p)

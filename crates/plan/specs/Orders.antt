@@ -33,6 +33,13 @@ unfoldable pub picksOfAll : ℕ → List Order → List ℕ
 picksOfAll W [] = []
 picksOfAll W (o ∷ os) = picksOf W o ++ picksOfAll W os
 
+-- an order of R lines alone
+abbrev pub OnlyRounds : List Order → Type 0
+OnlyRounds [] = Unit {0}
+OnlyRounds (picks worker n ∷ os) = ⊥
+OnlyRounds (rounds n ∷ os) = OnlyRounds os
+OnlyRounds (seeded seed n ∷ os) = ⊥
+
 -- the picks of a plan, cut at a limit
 abbrev pub picksUpTo : ℕ → Plan → List ℕ
 picksUpTo limit p = take limit (picksOfAll (p .workers) (p .orders))

@@ -62,7 +62,7 @@ pub exact-in-turn : let t = after (one 2 1) (times 10 (0 ∷ 1 ∷ [])) .tasks i
 unfolding computing chainCost
 exact-in-turn = refl
 
--- one worker: finished after 110 picks, so twice the cost would be too much
-pub finished-at-110 : (after (one 1 100) (replicate 120 0)) .picks ≡ 110
+-- one worker and a task of cost 100: 110 picks are enough, so twice the cost would be too much
+pub finished-early : finished (one 1 100) (after (one 1 100) (replicate 110 0)) ≡ true
 unfolding computing
-finished-at-110 = refl
+finished-early = refl
