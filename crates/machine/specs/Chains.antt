@@ -1,6 +1,5 @@
 -- How many picks chains of conflicting tasks take at the least: what every list of workers' picks from a fresh start says of them.
 use Prim.Native.Nat.{ℕ, _+_, _*_, _≤_}
-use native.Mathlib.Nat.{mul-comm}
 use native.Mathlib.Omega.{arith}
 use mathlib.Core.Path.{_≡_}
 use mathlib.Core.Bool.{true}
@@ -16,6 +15,7 @@ use Rattle.tasks.specs.Playing as P
 use Rattle.machine.specs.State.{Setup, State, start}
 use Rattle.machine.specs.Event.{event}
 use Rattle.machine.specs.Step.{taskOp, step, finished, after}
+use Rattle.machine.specs.Figures.{chainFigure}
 use Rattle.machine.specs.Trace.{Happening, trace}
 use Rattle.machine.specs.Safety as Safety
 use Rattle.machine.specs.Safety.Histories as R
@@ -30,12 +30,12 @@ pub record Chains (c : Setup) (ws : List ℕ) : Type 0 where
   pub span-apart : (M : ℕ) → Apart M ws → (i : ℕ) (is : List ℕ) → Chain (c .tasks) (i ∷ is)
       → (after c ws) .tasks .status (lastOf i is) ≡ over
       → (after c ws) .tasks .receipt i + (chainCost (c .tasks) (i ∷ is) + length (i ∷ is)) * M ≤ (after c ws) .tasks .ending (lastOf i is)
-  -- where the workers are picked in turn, a finished run took at least W times the cost of every chain
+  -- where the workers are picked in turn, a finished run took at least W times the cost of every chain, and W more for each task of it
+  pub in-turn : InTurn (c .workers) ws → finished c (after c ws) ≡ true → (xs : List ℕ) → Chain (c .tasks) xs
+      → chainFigure c xs ≤ (after c ws) .picks
+  -- so W times its cost
   pub at-least : InTurn (c .workers) ws → finished c (after c ws) ≡ true → (xs : List ℕ) → Chain (c .tasks) xs
       → c .workers * chainCost (c .tasks) xs ≤ (after c ws) .picks
-  -- and W more for each task of it
-  pub in-turn : InTurn (c .workers) ws → finished c (after c ws) ≡ true → (xs : List ℕ) → Chain (c .tasks) xs
-      → c .workers * (chainCost (c .tasks) xs + length xs) ≤ (after c ws) .picks
 
 module _ (c : Setup) (playable : Playable c) (ws : List ℕ) (p : Picks (c .workers) ws) where
   abbrev now : State
@@ -58,13 +58,13 @@ module _ (c : Setup) (playable : Playable c) (ws : List ℕ) (p : Picks (c .work
     whole e (i ∷ is) f =
         let last = lastOf i is in
         let done = P.all-over (c .workers) (c .tasks) (now .tasks) (now .stand) e last (last-below (c .tasks) i is f) in
-        omega (arith, spans i is f done, Safety.noted c playable ws p last .2, mul-comm M (chainCost (c .tasks) (i ∷ is) + length (i ∷ is)))
+        omega (arith, spans i is f done, Safety.noted c playable ws p last .2)
 
 pub chains : (c : Setup) → Playable c → (ws : List ℕ) → Picks (c .workers) ws → Chains c ws
 chains c playable ws p =
     record {
       span = λ i is f o. omega (arith, spans c playable ws p 1 (apart-one ws) i is f o);
       span-apart = λ M apart. spans c playable ws p M apart;
-      at-least = λ turn e xs f. omega (arith, whole c playable ws p (c .workers) (in-turn-apart (c .workers) ws turn) e xs f);
       in-turn = λ turn. whole c playable ws p (c .workers) (in-turn-apart (c .workers) ws turn);
+      at-least = λ turn e xs f. omega (arith, whole c playable ws p (c .workers) (in-turn-apart (c .workers) ws turn) e xs f);
     }

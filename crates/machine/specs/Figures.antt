@@ -1,9 +1,12 @@
--- How many picks a wait and a run take at the most, where every B picks in a row include each worker.
+-- How many picks a wait and a run take at the most, where every B picks in a row include each worker, and how many a chain takes at the
+-- least, where the workers are picked in turn.
 use Prim.Native.Nat.{ℕ, _+_, _*_}
 use mathlib.Core.Path.{_≡_, refl}
 use mathlib.Core.Bool.{Bool, true, false}
+use mathlib.Core.List.{List}
 use lib.ListN.{length}
 use Rattle.runs.specs.Sums.{sum}
+use Rattle.plan.specs.Chains.{chainCost}
 use Rattle.plan.specs.Permits.{anyMasked}
 use Rattle.tasks.specs.Accesses.{accesses, taskAt}
 use Rattle.machine.specs.State.{Setup}
@@ -29,7 +32,11 @@ module _ (c : Setup) where
       let C = sum T (λ i. taskAt (c .tasks) i .cost) in
       B * perProgress * (7 * T + 7 * A + C)
 
-  -- written out
+  -- for each step of work of a chain, and for each of its tasks, one pick of each worker
+  abbrev pub chainFigure : List ℕ → ℕ
+  chainFigure xs = c .workers * (chainCost (c .tasks) xs + length xs)
+
+  -- the finishing figure written out
   pub figure-unmasked : anyMasked (c .tasks) ≡ false → (B : ℕ)
       → finishingFigure B
       ≡ B * (4 * c .workers + 8)

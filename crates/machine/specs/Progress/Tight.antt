@@ -6,7 +6,7 @@ use mathlib.Core.Bool.{Bool, true, false}
 use mathlib.Core.List.{List, [], _∷_, _++_}
 use mathlib.Core.Option.{none}
 use lib.ListN.{replicate, take}
-use lib.Dec.{eqb}
+use lib.Dec.{eqb, leb}
 use Rattle.runs.specs.Sums.{sum}
 use Rattle.lock.specs.History as LH
 use Rattle.plan.specs.Orders.{times}
@@ -14,7 +14,7 @@ use Rattle.plan.specs.Chains.{chainCost}
 use Rattle.machine.specs.State.{Setup}
 use Rattle.machine.specs.Step.{finished, after}
 use Rattle.machine.specs.Whereabouts.{lockStand}
-use Rattle.machine.specs.Figures.{waitingFigure, finishingFigure}
+use Rattle.machine.specs.Figures.{waitingFigure, finishingFigure, chainFigure}
 use Rattle.machine.specs.Computing.{computing}
 
 -- one task with this cost and no access
@@ -62,7 +62,11 @@ pub exact-in-turn : let t = after (one 2 1) (times 10 (0 ∷ 1 ∷ [])) .tasks i
 unfolding computing chainCost
 exact-in-turn = refl
 
--- one worker and a task of cost 100: 110 picks are enough, so twice the cost would be too much
+-- one worker and a task of cost 100: finished after 110 picks, so no figure for it is more
 pub finished-early : finished (one 1 100) (after (one 1 100) (replicate 110 0)) ≡ true
 unfolding computing
 finished-early = refl
+
+pub least-below : leb (chainFigure (one 1 100) (0 ∷ [])) 110 ≡ true
+unfolding chainCost
+least-below = refl
