@@ -1,8 +1,9 @@
 /*
- * The bench, its converters and its lock for C callers.
+ * The bench, its converters, the longest chain of a plan and the lock for C callers.
  *
  *   salfunye_check, salfunye_run              libbench_c.a     (rt staticlib bench_c)
  *   salfunye_to_second, salfunye_to_first     libconvert_c.a   (rt staticlib convert_c)
+ *   salfunye_chain                            libchain_c.a     (rt staticlib chain_c)
  *   salfunye_lock_...                         liblock_c.a      (rt staticlib lock_c)
  *
  * Every function takes any values. What a pointer and its length name must be
@@ -10,7 +11,7 @@
  * whose length is 0 may be anything but NULL. No function keeps a pointer,
  * takes memory from the heap or has state of its own, so calls with different
  * buffers may run at the same time. salfunye_run needs up to 400,000 bytes of
- * stack, the other functions less than 1,000.
+ * stack, salfunye_chain up to 20,000, the other functions less than 1,000.
  */
 #ifndef SALFUNYE_H
 #define SALFUNYE_H
@@ -117,6 +118,33 @@ struct salfunye_written salfunye_to_second(const uint8_t *text, size_t text_leng
  */
 struct salfunye_written salfunye_to_first(const uint8_t *text, size_t text_length,
                                           uint8_t *output, size_t output_length);
+
+/* ---- The longest chain ----
+ *
+ * Two tasks conflict when they share an address and one of them writes it. A
+ * chain is one task, or several of which each conflicts with a later next one;
+ * it costs the sum of its tasks' costs. The longest chain costs the most: it is
+ * the critical path of the task graph. Of several the first in order of their
+ * task numbers is meant, compared left to right, and a chain comes before its own
+ * extensions.
+ *
+ * Under an order of R lines alone a finished run takes at least W times its sum
+ * in picks. Under any order the pick that ends its last task comes after the one
+ * that receives its first by at least its sum and one for each of its tasks.
+ */
+
+/* No line is longer, in bytes. */
+#define SALFUNYE_CHAIN_SIZE 409
+
+/*
+ * Writes a line with the longest chain of a plan text into the first bytes of the
+ * output: its sum, then the numbers of its tasks, parted by tabs; `0` alone for a
+ * plan without tasks. Order lines and masks have no effect on it. Answers 0, what
+ * salfunye_check gives, then 8. SALFUNYE_CHAIN_SIZE is enough output for any plan.
+ * A refusal writes no byte of it; past the line it is as it was.
+ */
+struct salfunye_written salfunye_chain(const uint8_t *text, size_t text_length,
+                                       uint8_t *output, size_t output_length);
 
 /* ---- The lock ----
  *
