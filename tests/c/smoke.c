@@ -155,16 +155,16 @@ static void bench(void) {
     free(large);
 }
 
-typedef struct salfunye_written converter(const uint8_t *, size_t, uint8_t *, size_t);
+typedef struct salfunye_written tool(const uint8_t *, size_t, uint8_t *, size_t);
 
-/* Converts a text into a used output of this length, and looks at all that is left. */
-static struct salfunye_written convert(converter *to, const char *text, size_t size, size_t output_length, const char *expected) {
+/* Gives a text and a used output of this length to a tool, and looks at all that is left. */
+static struct salfunye_written use(tool *used, const char *text, size_t size, size_t output_length, const char *expected) {
     uint8_t *plan = taken(size);
     uint8_t *output = taken(output_length);
     memcpy(plan, text, size);
     memset(output, '#', output_length);
 
-    struct salfunye_written written = to(plan, size, output, output_length);
+    struct salfunye_written written = used(plan, size, output, output_length);
 
     EXPECT(memcmp(plan, text, size) == 0);
     size_t length = written.number == 0 ? strlen(expected) : 0;
@@ -191,41 +191,41 @@ static char *sized(size_t size) {
 static void converters(void) {
     size_t first = strlen(listing), second = strlen(moved);
     for (size_t more = 0; more < 3; more++) {
-        struct salfunye_written written = convert(salfunye_to_second, listing, first, second + more, moved);
+        struct salfunye_written written = use(salfunye_to_second, listing, first, second + more, moved);
         EXPECT(written.number == SALFUNYE_ACCEPTED && written.line == 0);
-        written = convert(salfunye_to_first, moved, second, first + more, listing);
+        written = use(salfunye_to_first, moved, second, first + more, listing);
         EXPECT(written.number == SALFUNYE_ACCEPTED && written.line == 0);
-        written = convert(salfunye_to_second, moved, second, second + more, moved);
+        written = use(salfunye_to_second, moved, second, second + more, moved);
         EXPECT(written.number == SALFUNYE_ACCEPTED && written.line == 0);
-        written = convert(salfunye_to_first, listing, first, first + more, listing);
+        written = use(salfunye_to_first, listing, first, first + more, listing);
         EXPECT(written.number == SALFUNYE_ACCEPTED && written.line == 0);
     }
     for (size_t less = 1; less <= first; less += first - 1) {
-        struct salfunye_written written = convert(salfunye_to_second, listing, first, second - less, "");
+        struct salfunye_written written = use(salfunye_to_second, listing, first, second - less, "");
         EXPECT(written.number == SALFUNYE_OUTPUT_TOO_SHORT && written.line == 0);
-        written = convert(salfunye_to_first, moved, second, first - less, "");
+        written = use(salfunye_to_first, moved, second, first - less, "");
         EXPECT(written.number == SALFUNYE_OUTPUT_TOO_SHORT && written.line == 0);
     }
 
     /* 10 comes before a short output and behind what the reader refuses */
-    struct salfunye_written written = convert(salfunye_to_first, two_slots, strlen(two_slots), 0, "");
+    struct salfunye_written written = use(salfunye_to_first, two_slots, strlen(two_slots), 0, "");
     EXPECT(written.number == SALFUNYE_OTHER_SIZES && written.line == 1);
     EXPECT(SALFUNYE_OTHER_SIZES == 10);
-    written = convert(salfunye_to_first, "W\t2\t64\t9\n", 9, 100, "");
+    written = use(salfunye_to_first, "W\t2\t64\t9\n", 9, 100, "");
     EXPECT(written.number == SALFUNYE_OTHER_SIZES && written.line == 1);
-    written = convert(salfunye_to_first, "W\t2\t63\t8\n", 9, 100, "");
+    written = use(salfunye_to_first, "W\t2\t63\t8\n", 9, 100, "");
     EXPECT(written.number == SALFUNYE_OTHER_SIZES && written.line == 1);
-    written = convert(salfunye_to_first, two_slots, strlen(two_slots) - 1, 100, "");
+    written = use(salfunye_to_first, two_slots, strlen(two_slots) - 1, 100, "");
     EXPECT(written.number == SALFUNYE_MALFORMED && written.line == 6);
-    written = convert(salfunye_to_second, two_slots, strlen(two_slots), 100, two_slots);
+    written = use(salfunye_to_second, two_slots, strlen(two_slots), 100, two_slots);
     EXPECT(written.number == SALFUNYE_ACCEPTED);
-    written = convert(salfunye_to_first, few_slots, strlen(few_slots), 100, "");
+    written = use(salfunye_to_first, few_slots, strlen(few_slots), 100, "");
     EXPECT(written.number == SALFUNYE_TOO_FEW_SLOTS && written.line == 1);
-    written = convert(salfunye_to_first, nobody, strlen(nobody), 100, "");
+    written = use(salfunye_to_first, nobody, strlen(nobody), 100, "");
     EXPECT(written.number == SALFUNYE_EMPTY_MASK && written.line == 3);
-    written = convert(salfunye_to_first, tied, strlen(tied), strlen(tied), tied);
+    written = use(salfunye_to_first, tied, strlen(tied), strlen(tied), tied);
     EXPECT(written.number == SALFUNYE_ACCEPTED);
-    written = convert(salfunye_to_second, "", 0, 0, "");
+    written = use(salfunye_to_second, "", 0, 0, "");
     EXPECT(written.number == SALFUNYE_MISPLACED && written.line == 1);
 
     /* 6 is by the result, which has 5 bytes more, and comes before 8 */
@@ -233,9 +233,9 @@ static void converters(void) {
         char *text = sized(size), *result = taken(size + 6);
         sprintf(result, "W\t1\t64\t8%s", text + 3);
         bool fits = size + 5 <= SALFUNYE_TEXT_SIZE;
-        written = convert(salfunye_to_second, text, size, fits ? size + 5 : 0, result);
+        written = use(salfunye_to_second, text, size, fits ? size + 5 : 0, result);
         EXPECT(written.number == (fits ? SALFUNYE_ACCEPTED : SALFUNYE_TEXT_TOO_LONG) && written.line == 0);
-        written = convert(salfunye_to_first, text, size, size, text);
+        written = use(salfunye_to_first, text, size, size, text);
         EXPECT(written.number == (size <= SALFUNYE_TEXT_SIZE ? SALFUNYE_ACCEPTED : SALFUNYE_TEXT_TOO_LONG));
         free(result);
         free(text);
