@@ -1,8 +1,8 @@
 /*
- * A C caller of the bench, the converters and the lock, by the header alone: the
- * paper's listing, refusals, what is left in store and output, a task tied to a
- * worker, locks that nobody owns, the listing moved to the other form and back, and
- * some turns of the lock.
+ * A C caller of the bench, the converters, the longest chain and the lock, by the
+ * header alone: the paper's listing, refusals, what is left in store and output, a
+ * task tied to a worker, locks that nobody owns, the listing moved to the other form
+ * and back, longest chains, and some turns of the lock.
  * Buffers are taken from the heap in their exact sizes, so that a memory checker
  * sees a step past their ends.
  */
@@ -39,6 +39,10 @@ static const char nobody[] = "W\t4\nT\ta\t0\nM\t0\nR\t1\n";
 static const char unseen[] = "W\t2\nT\ta\t0\nP\t1\t3\nP\t0\t5\nP\t1\t7\n";
 static const char free_report[] = "E\topen\t14\t2\nT\t0\ta\theld\t-\t-\t-\t1\nL\t66\t67\t-\n";
 static const char spoken_for_report[] = "E\topen\t15\t2\nT\t0\ta\theld\t-\t-\t-\t1\nL\t67\t67\t>1\n";
+
+/* two halves that cost the same, and tasks without cost: one before them and one behind the join */
+static const char halves[] = "W\t3\nT\ta\t0\tw1\nT\tb\t5\tr1\tw2\nT\tc\t5\tr1\tw3\nT\td\t30\tr2\tr3\tw4\nT\te\t0\tr4\nR\t90\n";
+static const char halves_chain[] = "35\t0\t1\t3\n";
 
 static void *taken(size_t size) {
     void *room = malloc(size > 0 ? size : 1);
@@ -242,6 +246,63 @@ static void converters(void) {
     }
 }
 
+static void chain(void) {
+    size_t size = strlen(halves), length = strlen(halves_chain);
+    for (size_t more = 0; more < 3; more++) {
+        struct salfunye_written written = use(salfunye_chain, halves, size, length + more, halves_chain);
+        EXPECT(written.number == SALFUNYE_ACCEPTED && written.line == 0);
+    }
+    for (size_t less = 1; less <= length; less++) {
+        struct salfunye_written written = use(salfunye_chain, halves, size, length - less, "");
+        EXPECT(written.number == SALFUNYE_OUTPUT_TOO_SHORT && written.line == 0);
+    }
+
+    /* one task, whoever may run it, and none */
+    struct salfunye_written written = use(salfunye_chain, listing, strlen(listing), SALFUNYE_CHAIN_SIZE, "0\t0\n");
+    EXPECT(written.number == SALFUNYE_ACCEPTED);
+    written = use(salfunye_chain, moved, strlen(moved), SALFUNYE_CHAIN_SIZE, "0\t0\n");
+    EXPECT(written.number == SALFUNYE_ACCEPTED);
+    written = use(salfunye_chain, tied, strlen(tied), 4, "5\t0\n");
+    EXPECT(written.number == SALFUNYE_ACCEPTED);
+    written = use(salfunye_chain, "W\t2\nR\t9\n", 8, 2, "0\n");
+    EXPECT(written.number == SALFUNYE_ACCEPTED);
+    written = use(salfunye_chain, "W\t2\nR\t9\n", 8, 1, "");
+    EXPECT(written.number == SALFUNYE_OUTPUT_TOO_SHORT && written.line == 0);
+
+    /* what the reader refuses comes before a short output */
+    written = use(salfunye_chain, halves, size - 1, 0, "");
+    EXPECT(written.number == SALFUNYE_MALFORMED && written.line == 7);
+    written = use(salfunye_chain, few_slots, strlen(few_slots), 100, "");
+    EXPECT(written.number == SALFUNYE_TOO_FEW_SLOTS && written.line == 1);
+    written = use(salfunye_chain, nobody, strlen(nobody), 100, "");
+    EXPECT(written.number == SALFUNYE_EMPTY_MASK && written.line == 3);
+    written = use(salfunye_chain, "", 0, 0, "");
+    EXPECT(written.number == SALFUNYE_MISPLACED && written.line == 1);
+    for (size_t more = 0; more < 2; more++) {
+        char *text = sized(SALFUNYE_TEXT_SIZE + more);
+        written = use(salfunye_chain, text, SALFUNYE_TEXT_SIZE + more, 2, "0\n");
+        EXPECT(written.number == (more == 0 ? SALFUNYE_ACCEPTED : SALFUNYE_TEXT_TOO_LONG) && written.line == 0);
+        free(text);
+    }
+
+    /* the longest line: all tasks write one address, and cost what a task may */
+    char *text = taken(SALFUNYE_TEXT_SIZE), *line = taken(SALFUNYE_CHAIN_SIZE + 1);
+    size = (size_t)sprintf(text, "W\t1\n");
+    length = (size_t)sprintf(line, "128000");
+    for (unsigned i = 0; i < 128; i++) {
+        size += (size_t)sprintf(text + size, "T\ta\t1000\tw1\n");
+        length += (size_t)sprintf(line + length, "\t%u", i);
+    }
+    length += (size_t)sprintf(line + length, "\n");
+    EXPECT(length == SALFUNYE_CHAIN_SIZE);
+    written = use(salfunye_chain, text, size, SALFUNYE_CHAIN_SIZE, line);
+    EXPECT(written.number == SALFUNYE_ACCEPTED && written.line == 0);
+    written = use(salfunye_chain, text, size, SALFUNYE_CHAIN_SIZE - 1, "");
+    EXPECT(written.number == SALFUNYE_OUTPUT_TOO_SHORT && written.line == 0);
+    free(line);
+    free(text);
+}
+
 /* 32 workers, 128 tasks of four accesses, each for one worker alone where it has a mask: every array of a run is in use.
  * `sizes` is what the W line has besides. */
 static void busy(const char *sizes, bool masks) {
@@ -310,6 +371,7 @@ static void lock(void) {
 int main(void) {
     bench();
     converters();
+    chain();
     busy("", false);
     busy("\t32\t1", false);
     busy("\t33\t16", false);
