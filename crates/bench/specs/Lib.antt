@@ -6,6 +6,7 @@ pub mod Leaves
 pub mod Examples
 pub mod OwnAnswer
 pub mod OwnLock
+pub mod OwnChain
 pub mod NoPicks
 pub mod Unread
 pub mod Moved

@@ -59,6 +59,12 @@ module _ (text : List ℕ) (p : Plan) (e : reading text ≡ accepted p) (limit :
         let w = answers ∙ written-whole (cleared store) output ((reached p limit) .picks) (reportOf p limit) long in
         (ap (λ o. o .answer) w, (drop (length (reportOf p limit)) output, ap (λ o. o .output) w))
 
+    -- where the run is finished the output begins with the line that says so
+    pub own-answer-finished : finished (setupOf p) (reached p limit) ≡ true
+        → Begins (line (bytes "E" ∷ bytes "finished" ∷ decimal ((reached p limit) .picks) ∷ decimal (totalPermitted (setupOf p)) ∷ []))
+        ((run limit store output text) .output)
+    own-answer-finished f = report-begins p limit _ _ (outcome-finished p limit f) (own-answer .1)
+
     -- if every B picks in a row include each worker, and there are as many as the finishing figure, the output begins with the line
     -- that says `finished`, with no more picks taken than that
     pub own-answer-finishes : (B : ℕ) → Regular (p .workers) B (picksUpTo limit p)
@@ -69,6 +75,5 @@ module _ (text : List ℕ) (p : Plan) (e : reading text ≡ accepted p) (limit :
         × Begins (line (bytes "E" ∷ bytes "finished" ∷ decimal picks ∷ decimal (totalPermitted (setupOf p)) ∷ []))
         ((run limit store output text) .output)
     own-answer-finishes B regular enough =
-        let (a, b) = own-answer in
         let (f, k) = own-finish text p e limit B regular enough in
-        ((reached p limit) .picks, length (reportOf p limit), a, k, report-begins p limit _ _ (outcome-finished p limit f) b)
+        ((reached p limit) .picks, length (reportOf p limit), own-answer .0, k, own-answer-finished f)

@@ -22,8 +22,8 @@ use Rattle.machine.specs.Safety.Histories as R
 use Rattle.machine.specs.Safety.Invariant.{Playable}
 
 pub record Chains (c : Setup) (ws : List ℕ) : Type 0 where
-  -- whatever the order: once a chain's last task is over, between the receipt of its first task and that ending there are at least as many
-  -- picks as the chain costs, and one for each of its tasks
+  -- whatever the order: once a chain's last task is over, from the receipt of its first task to that ending there were at least as many
+  -- picks as the chain costs, and one for each of its tasks; the pick of the receipt isn't counted, that of the ending is
   pub span : (i : ℕ) (is : List ℕ) → Chain (c .tasks) (i ∷ is) → (after c ws) .tasks .status (lastOf i is) ≡ over
       → (after c ws) .tasks .receipt i + (chainCost (c .tasks) (i ∷ is) + length (i ∷ is)) ≤ (after c ws) .tasks .ending (lastOf i is)
   -- and M times as many where each worker's picks are at least M apart
