@@ -160,7 +160,8 @@ module _ (ts : List Task) where
         most : (ys : List ℕ) → Upto There ⊥ 1 ys → chainCost ts ys ≤ chainCost ts (0 ∷ known .after .whole)
         most (k ∷ ks) (l, o, h) = let z : k ≡ 0 = omega arith in rw z (omega (arith, known .after .dearest .most ks (rw z at h)))
 
-        first : (ys : List ℕ) → Upto There ⊥ 1 ys → chainCost ts ys ≡ chainCost ts (0 ∷ known .after .whole) → ¬ Before ys (0 ∷ known .after .whole)
+        first : (ys : List ℕ) → Upto There ⊥ 1 ys → chainCost ts ys ≡ chainCost ts (0 ∷ known .after .whole)
+            → ¬ Before ys (0 ∷ known .after .whole)
         first (k ∷ ks) (l, o, h) e (inl b) = omega arith
         first (k ∷ ks) (l, o, h) e (inr (q, b)) = known .after .dearest .first ks (rw q at h) (omega (arith, rw q at e)) b
 

@@ -1,4 +1,4 @@
--- How the longest chain lies in numbers: for each task what the longest chain that begins with it costs, and the task that comes next in it.
+-- How the longest chain lies in numbers: for each task what the longest chain that begins with it costs, and the task that is next in it.
 use Prim.Native.Nat.{ℕ, _+_, _≤_, _<_}
 use mathlib.Core.Path.{_≡_}
 use mathlib.Core.List.{List, [], _∷_}

@@ -173,7 +173,9 @@ module _ (ts : List Task) where
       let with = map (λ ys. i ∷ ys) (following ts i later) in
       let f = in-sequence (suc i) n (omega arith) in
       let from = only-chains (suc i) n (omega arith) in (
-        λ ys m. ⊎-elim (λ k. alone ys (in-map i (following ts i later) ys k)) (λ k. begins-before i [] ys (from ys k)) (mem-either with later m),
+        λ ys m.
+            ⊎-elim (λ k. alone ys (in-map i (following ts i later) ys k)) (λ k. begins-before i [] ys (from ys k))
+            (mem-either with later m),
         sorted-append with later (sorted-map i (following ts i later) (sorted-following i later f)) f
             (λ xs ys k l. let (zs, m, q) = in-map i (following ts i later) xs k in rw q (begins-before i zs ys (from ys l))),
       )

@@ -23,6 +23,7 @@ module _ (text : List ℕ) (before after : Lent) (r : ReadPlan) (g : Gives text 
   pub read-accepted : r .checked ≡ Accepted → (p : Plan) × (reading text ≡ accepted p) × Says text before after r p
   read-accepted e = go (reading text) refl g
     where
-      go : (y : Reading) → reading text ≡ y → Gives text before after r y → (p : Plan) × (reading text ≡ accepted p) × Says text before after r p
+      go : (y : Reading) → reading text ≡ y → Gives text before after r y
+          → (p : Plan) × (reading text ≡ accepted p) × Says text before after r p
       go (accepted p) q h = (p, q, h)
       go (refused y k) q h = let w : Refused y k ≡ Accepted = sym (ap (λ (z : ReadPlan). z .checked) (h .0)) ∙ e in clash (cc)

@@ -35,26 +35,32 @@ slice-aggregate-tell c = search needs
 
 tell-requires : tie.Need-tell-requires
 tell-requires c κs =
-    let read = c .before .before .before .before .before .before .read in
-    let (p, e, says) = read-accepted _ _ _ _ (read .ensures) (c .before .before .enum-told .given .1) in
+    let accepts = c .before .before in
+    let read = accepts .before .before .before .before in
+    let (p, e, says) = read-accepted _ _ _ _ (read .read .ensures) (accepts .enum-told .given .1) in
     (tasks-length (says .rows) ∙ refl, (p .tasks, kept-tasks e says refl))
 
 returns : tie.Need-returns
 returns c =
-    let start = c .before .before .before .before .before .before .before .before .before .before in
+    let refuses = c .before in
+    let read = refuses .before .before .before .before in
+    let start = read .before .before .before .before .before in
     and-told (start .args .output .now) _ _
     (answer-refused (start .args .output .now) (start .args .text .now) _ _
-    (read-refused _ _ _ _ (c .before .before .before .before .before .read .ensures) _ _ (c .before .checked .given .1)))
+    (read-refused _ _ _ _ (read .read .ensures) _ _ (refuses .checked .given .1)))
 
 same-length : tie.Need-same-length
 same-length c = search needs
 
 returns-2 : tie.Need-returns-2
 returns-2 c =
-    let start = c .before .before .before .before .before .before .before .before .before .before .before .before .before .before in
-    let (p, e, says) = read-accepted _ _ _ _ (c .before .before .before .before .before .before .before .before .before .read .ensures) (c .before .before .before .before .before .enum-told .given .1) in
+    let told = c .before .before in
+    let accepts = told .before .before .before in
+    let read = accepts .before .before .before .before in
+    let start = read .before .before .before .before .before in
+    let (p, e, says) = read-accepted _ _ _ _ (read .read .ensures) (accepts .enum-told .given .1) in
     and-told (start .args .output .now) _ _
-    (answer-accepted (start .args .output .now) (start .args .text .now) p e _ (c .before .before .tell .ensures (p .tasks) (kept-tasks e says refl)))
+    (answer-accepted (start .args .output .now) (start .args .text .now) p e _ (told .tell .ensures (p .tasks) (kept-tasks e says refl)))
 
 pub longest-chain-spec : {M : Type 1} → statement M
 longest-chain-spec =

@@ -36,34 +36,46 @@ slice-aggregate-put-chain-2 c = search needs
 
 put-chain-requires : tie.Need-put-chain-requires
 put-chain-requires c κs =
-    let (ts, kept) = c .before .before .before .before .before .before .before .before .before .before .before .pre .1 in
-    let linked = c .before .before .before .before .before .before .link-tasks in
-    (linked .ensures .0 .1, kept .few, kept-rising kept (linked .ensures .1 ts kept))
+    let linked = c .before .before .before .before .before .before in
+    let start = linked .before .before .before .before .before in
+    let (ts, kept) = start .pre .1 in
+    (linked .link-tasks .ensures .0 .1, kept .few, kept-rising kept (linked .link-tasks .ensures .1 ts kept))
 
 returns : tie.Need-returns
 returns c ts kept =
-    let linked = c .before .before .before .before .before .before .before .before .before .link-tasks in
-    let starts = c .before .before .before .before .before .find-first .ensures ts (linked .last .1 .1 .1 .0) (kept .count) (linked .ensures .1 ts kept) in
-    told-short (kept .count) starts (c .before .before .put-chain .ensures) (c .before .before .before .before .before .before .before .before .before .before .before .before .before .before .args .output .now) (c .if1 .taken)
+    let told = c .before .before in
+    let found = told .before .before .before in
+    let linked = found .before .before .before .before in
+    let start = linked .before .before .before .before .before in
+    let nexts = linked .link-tasks .last .1 .1 .1 .0 in
+    let starts = found .find-first .ensures ts nexts (kept .count) (linked .link-tasks .ensures .1 ts kept) in
+    told-short (kept .count) starts (told .put-chain .ensures) (start .args .output .now) (c .if1 .taken)
 
 slice-aggregate-put-chain-3 : tie.Need-slice-aggregate-put-chain-3
 slice-aggregate-put-chain-3 c = search needs
 
 put-chain-requires-2 : tie.Need-put-chain-requires-2
 put-chain-requires-2 c κs =
-    let (ts, kept) = c .before .before .before .before .before .before .before .before .before .before .before .before .before .before .before .before .pre .1 in
-    let linked = c .before .before .before .before .before .before .before .before .before .before .before .link-tasks in
-    (linked .ensures .0 .1, kept .few, kept-rising kept (linked .ensures .1 ts kept))
+    let told = c .before .before .before .before in
+    let linked = told .before .before .before .before .before .before .before in
+    let start = linked .before .before .before .before .before in
+    let (ts, kept) = start .pre .1 in
+    (linked .link-tasks .ensures .0 .1, kept .few, kept-rising kept (linked .link-tasks .ensures .1 ts kept))
 
 same-length : tie.Need-same-length
 same-length c = search needs
 
 returns-2 : tie.Need-returns-2
 returns-2 c ts kept =
-    let linked = c .before .before .before .before .before .before .before .before .before .before .before .before .before .before .link-tasks in
-    let starts = c .before .before .before .before .before .before .before .before .before .before .find-first .ensures ts (linked .last .1 .1 .1 .0) (kept .count) (linked .ensures .1 ts kept) in
-    told-whole (kept .count) starts (c .before .before .before .before .before .before .before .put-chain .ensures) (c .before .before .before .before .before .before .before .before .before .before .before .before .before .before .before .before .before .before .before .args .output .now) (c .before .before .before .before .before .if1 .left)
-    (c .before .before .put-chain2 .ensures)
+    let written = c .before .before in
+    let room = written .before .before .before in
+    let told = room .before .before in
+    let found = told .before .before .before in
+    let linked = found .before .before .before .before in
+    let start = linked .before .before .before .before .before in
+    let nexts = linked .link-tasks .last .1 .1 .1 .0 in
+    let starts = found .find-first .ensures ts nexts (kept .count) (linked .link-tasks .ensures .1 ts kept) in
+    told-whole (kept .count) starts (told .put-chain .ensures) (start .args .output .now) (room .if1 .left) (written .put-chain2 .ensures)
 
 pub tell-spec : {M : Type 1} → statement M
 tell-spec =

@@ -49,9 +49,10 @@ unfolding conflict
 returns c text t u has other =
     let turn = c .before .before .before .before .loop in
     let low : turn .k < length (t .accesses) = omega (arith, turn .inv .0, has .count, c .before .before .before .loop-test .taken) in
+    let touched = c .before .before .touch-at .ensures in
+    let at = has .accesses (turn .k) low noAccess in
     search-found (λ x. every (λ y. not (meet x y)) (u .accesses)) (t .accesses) (turn .k) noAccess low
-    (fails _ _ (c .before .meets-task .ensures (getD (t .accesses) (turn .k) noAccess) text u (c .before .before .touch-at .ensures ∙ has .accesses (turn .k) low noAccess) other)
-    (c .if1 .taken))
+    (fails _ _ (c .before .meets-task .ensures (getD (t .accesses) (turn .k) noAccess) text u (touched ∙ at) other) (c .if1 .taken))
 
 add-k : tie.Need-add-k Inv-loop μ-loop
 add-k c = search needs
@@ -67,9 +68,10 @@ loop-again c =
       omega arith,
       λ text t u has other.
           let low : turn .k < length (t .accesses) = omega (arith, turn .inv .0, has .count, test) in
+          let touched = c .before .before .touch-at .ensures in
+          let at = has .accesses (turn .k) low noAccess in
           search-on (λ x. every (λ y. not (meet x y)) (u .accesses)) (t .accesses) (turn .k) noAccess low
-          (passes _ _ (c .before .meets-task .ensures (getD (t .accesses) (turn .k) noAccess) text u (c .before .before .touch-at .ensures ∙ has .accesses (turn .k) low noAccess) other)
-          (c .if1 .left))
+          (passes _ _ (c .before .meets-task .ensures (getD (t .accesses) (turn .k) noAccess) text u (touched ∙ at) other) (c .if1 .left))
           (turn .inv .2 text t u has other),
     )
 

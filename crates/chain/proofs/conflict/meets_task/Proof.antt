@@ -45,8 +45,9 @@ returns : tie.Need-returns Inv-loop μ-loop
 returns c x text u p has =
     let turn = c .before .before .before .before .loop in
     let low : turn .k < length (u .accesses) = omega (arith, turn .inv .0, has .count, c .before .before .before .loop-test .taken) in
+    let touched = c .before .before .touch-at .ensures ∙ has .accesses (turn .k) low x in
     search-found (λ y. not (meet x y)) (u .accesses) (turn .k) x low
-    (ap not (sym (c .before .meet .ensures x _ p (c .before .before .touch-at .ensures ∙ has .accesses (turn .k) low x)) ∙ c .if1 .taken))
+    (ap not (sym (c .before .meet .ensures x _ p touched) ∙ c .if1 .taken))
 
 add-k : tie.Need-add-k Inv-loop μ-loop
 add-k c = search needs
@@ -62,8 +63,9 @@ loop-again c =
       omega arith,
       λ x text u p has.
           let low : turn .k < length (u .accesses) = omega (arith, turn .inv .0, has .count, test) in
+          let touched = c .before .before .touch-at .ensures ∙ has .accesses (turn .k) low x in
           search-on (λ y. not (meet x y)) (u .accesses) (turn .k) x low
-          (ap not (sym (c .before .meet .ensures x _ p (c .before .before .touch-at .ensures ∙ has .accesses (turn .k) low x)) ∙ c .if1 .left))
+          (ap not (sym (c .before .meet .ensures x _ p touched) ∙ c .if1 .left))
           (turn .inv .2 x text u p has),
     )
 

@@ -34,36 +34,45 @@ loop-holds : tie.Need-loop-holds Inv-loop μ-loop
 loop-holds c = (refl, omega arith, omega arith, λ xs leads. going-start _ _ xs leads)
 
 mul-next : tie.Need-mul-next Inv-loop μ-loop
-mul-next c = omega (arith, c .before .before .before .before .before .before .before .before .before .pre .1, c .loop-test .taken)
+mul-next c =
+    let start = c .before .before .before .before .before .before .before .before .before in
+    omega (arith, start .pre .1, c .loop-test .taken)
 
 shared-slice-read-next : tie.Need-shared-slice-read-next Inv-loop μ-loop
-shared-slice-read-next c = omega (arith, c .before .before .before .before .before .before .before .before .before .before .pre .0, c .before .before .before .before .before .before .before .before .before .before .pre .1, c .before .loop-test .taken)
+shared-slice-read-next c =
+    let start = c .before .before .before .before .before .before .before .before .before .before in
+    omega (arith, start .pre .0, start .pre .1, c .before .loop-test .taken)
 
 end-before-requires-2 : tie.Need-end-before-requires-2 Inv-loop μ-loop
 end-before-requires-2 c κs = search needs
 
 put-number-requires-2 : tie.Need-put-number-requires-2 Inv-loop μ-loop
 put-number-requires-2 c κs =
-    let turn = c .before .before .before .before .loop in
-    omega (arith, turn .inv .1, turn .inv .2, c .before .before .before .before .before .before .before .put-number .ensures .0, c .before .before .before .before .before .before .before .before .before .before .before .before .pre .1, c .before .before .before .loop-test .taken)
+    let test = c .before .before .before in
+    let turn = test .before .loop in
+    let first = test .before .before .before .before in
+    let start = first .before .before .before .before .before in
+    omega (arith, turn .inv .1, turn .inv .2, first .put-number .ensures .0, start .pre .1, test .loop-test .taken)
 
 loop-less : tie.Need-loop-less Inv-loop μ-loop
 loop-less c =
-    let turn = c .before .before .before .before .before .before .before .loop in
-    let below = c .before .before .before .before .before .before .loop-test .taken in
-    omega (arith, c .before .before .before .before .before .before .before .before .before .before .before .before .before .before .before .pre .2 (turn .at) below)
+    let test = c .before .before .before .before .before .before in
+    let start = test .before .before .before .before .before .before .before .before .before in
+    omega (arith, start .pre .2 (test .before .loop .at) (test .loop-test .taken))
 
 loop-again : tie.Need-loop-again Inv-loop μ-loop
 loop-again c =
-    let turn = c .before .before .before .before .before .before .before .loop in
-    let below = c .before .before .before .before .before .before .loop-test .taken in
-    let start = c .before .before .before .before .before .before .before .before .before .before .before .before .before .before .before in
     let put = c .before .before .put-number2 in
+    let end = c .before .before .before .before in
+    let test = end .before .before in
+    let turn = test .before .loop in
+    let below = test .loop-test .taken in
+    let start = test .before .before .before .before .before .before .before .before .before in
     let later = start .pre .2 (turn .at) below in (
       wrote-length (put .ensures .1) ∙ turn .inv .0,
       omega (arith, turn .inv .1),
       omega (arith, turn .inv .2, put .ensures .0),
-      λ xs leads. going-on _ _ below (turn .inv .3 xs leads) (put .ensures .1) (c .before .before .before .before .end-before2 .ensures),
+      λ xs leads. going-on _ _ below (turn .inv .3 xs leads) (put .ensures .1) (end .end-before2 .ensures),
     )
 
 same-length : tie.Need-same-length Inv-loop μ-loop
@@ -72,7 +81,8 @@ same-length c = c .before .loop .inv .0 ∙ wrote-length (c .before .before .bef
 returns : tie.Need-returns Inv-loop μ-loop
 returns c xs leads =
     let turn = c .before .loop in
-    wrote-first _ _ _ (c .before .before .before .before .put-number .ensures .1) (c .before .before .before .before .before .before .end-before .ensures) xs leads
+    let first = c .before .before .before .before in
+    wrote-first _ _ _ (first .put-number .ensures .1) (first .before .before .end-before .ensures) xs leads
     (going-done _ _ (c .loop-test .left) (turn .inv .3 xs leads))
 
 pub put-chain-spec : {M : Type 1} → statement M
