@@ -6,8 +6,9 @@
 
 use std::cmp::Ordering;
 
-use crate::plan::{callers, check, refusal, Refusal, Task, TASK_LIMIT};
-use crate::report::{chain_line, refusal_line};
+use crate::plan::{check, Refusal, Task, TASK_LIMIT};
+use crate::report::chain_line;
+use crate::tool::{self, write};
 
 /// Up to so many tasks all chains are searched.
 pub const SEARCHED: usize = 12;
@@ -32,22 +33,9 @@ pub fn line(text: &[u8]) -> Result<Vec<u8>, Refusal> {
     Ok(chain_line(&longest(&plan.tasks)))
 }
 
-/// Puts a line into an output, if it has room for it.
-pub fn write(line: &[u8], output: &mut [u8]) -> Result<usize, Refusal> {
-    if output.len() < line.len() {
-        return Err(callers(refusal::OUTPUT_SIZE));
-    }
-    output[..line.len()].copy_from_slice(line);
-    Ok(line.len())
-}
-
 /// What the program prints: the line of the chain, or that of the refusal.
 pub fn answer_bytes(text: &[u8]) -> Vec<u8> {
-    let mut output = [0; LONGEST_LINE];
-    match longest_chain(text, &mut output) {
-        Ok(length) => output[..length].to_vec(),
-        Err(refusal) => refusal_line(refusal),
-    }
+    tool::answer_bytes(longest_chain, text, LONGEST_LINE)
 }
 
 /// The chain that is printed.

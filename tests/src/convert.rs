@@ -2,10 +2,7 @@
 //! bytes behind its W line, and that line written anew where the form changes.
 
 use crate::plan::{callers, check, refusal, Form, Refusal, CAPACITY, SLOTS, TEXT_LIMIT};
-use crate::report::refusal_line;
-
-/// From a text and an output to the length of the result in it.
-pub type Converter = fn(&[u8], &mut [u8]) -> Result<usize, Refusal>;
+use crate::tool::{self, room, Tool};
 
 /// Puts a plan into the second form, the sizes of the first spelled out.
 pub fn to_second(text: &[u8], output: &mut [u8]) -> Result<usize, Refusal> {
@@ -40,15 +37,8 @@ pub fn to_first(text: &[u8], output: &mut [u8]) -> Result<usize, Refusal> {
 }
 
 /// What a converter's program prints: the result, or the line of the refusal.
-pub fn answer_bytes(convert: Converter, text: &[u8]) -> Vec<u8> {
-    let mut output = vec![0; TEXT_LIMIT];
-    match convert(text, &mut output) {
-        Ok(length) => {
-            output.truncate(length);
-            output
-        }
-        Err(refusal) => refusal_line(refusal),
-    }
+pub fn answer_bytes(convert: Tool, text: &[u8]) -> Vec<u8> {
+    tool::answer_bytes(convert, text, TEXT_LIMIT)
 }
 
 /// A result in two parts: a new first line, or none, and bytes of the text.
@@ -76,10 +66,7 @@ impl<'t> Moved<'t> {
         if length > TEXT_LIMIT {
             return Err(callers(refusal::TEXT_SIZE));
         }
-        if output.len() < length {
-            return Err(callers(refusal::OUTPUT_SIZE));
-        }
-        let (first, kept) = output[..length].split_at_mut(self.first.len());
+        let (first, kept) = room(output, length)?.split_at_mut(self.first.len());
         first.copy_from_slice(self.first.as_bytes());
         kept.copy_from_slice(self.kept);
         Ok(length)

@@ -14,3 +14,4 @@ pub mod random;
 pub mod report;
 pub mod run;
 pub mod text;
+pub mod tool;

@@ -4,6 +4,7 @@ use crate::machine::Machine;
 use crate::order::Picks;
 use crate::plan::{callers, check, refusal, Plan, Refusal, TEXT_LIMIT};
 use crate::report::{refusal_line, report};
+use crate::tool::write;
 
 /// Numbers that the store must have.
 pub const STORE_SIZE: usize = 8_192;
@@ -32,13 +33,9 @@ pub fn run(
     let plan = check(text)?;
     let machine = play(&plan, limit);
     let bytes = report(text, &plan, &machine);
-    if output.len() < bytes.len() {
-        return Err(callers(refusal::OUTPUT_SIZE));
-    }
-    output[..bytes.len()].copy_from_slice(&bytes);
     Ok(Reported {
         picks: machine.picks,
-        length: bytes.len(),
+        length: write(&bytes, output)?,
     })
 }
 

@@ -1,13 +1,14 @@
 //! The converters: their results byte for byte, their refusals and the order of
 //! these, what they leave in the output, and that a moved plan is the same plan.
 
-use second::convert::{answer_bytes, to_first, to_second, Converter};
+use second::convert::{answer_bytes, to_first, to_second};
 use second::plan::{check, Form, Refusal};
 use second::random::{damaged, first_form, plan, plan_of_size, with_sizes, Rng, Shape};
 use second::run;
 use second::text::lines;
+use second::tool::Tool;
 
-const BOTH: [Converter; 2] = [to_second, to_first];
+const BOTH: [Tool; 2] = [to_second, to_first];
 const REST: [&str; 6] = [
     "T a 0 w5",
     "M 1",
@@ -24,7 +25,7 @@ fn with_rest(first: &str) -> Vec<u8> {
 
 /// Converts into a used output of this length, of which a result changes its own
 /// bytes alone and a refusal none.
-fn converted(convert: Converter, text: &[u8], room: usize) -> Result<Vec<u8>, (u8, u64)> {
+fn converted(convert: Tool, text: &[u8], room: usize) -> Result<Vec<u8>, (u8, u64)> {
     let used: Vec<u8> = (0..room).map(|place| b'#' ^ place as u8).collect();
     let mut output = used.clone();
     match convert(text, &mut output) {
@@ -41,11 +42,11 @@ fn converted(convert: Converter, text: &[u8], room: usize) -> Result<Vec<u8>, (u
 }
 
 /// With room for any result.
-fn result(convert: Converter, text: &[u8]) -> Result<Vec<u8>, (u8, u64)> {
+fn result(convert: Tool, text: &[u8]) -> Result<Vec<u8>, (u8, u64)> {
     converted(convert, text, 70_000)
 }
 
-fn refused(convert: Converter, plan: &[&str]) -> (u8, u64) {
+fn refused(convert: Tool, plan: &[&str]) -> (u8, u64) {
     result(convert, &lines(plan)).unwrap_err()
 }
 

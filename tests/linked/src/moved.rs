@@ -8,16 +8,17 @@ use crate::convert;
 use crate::fence::Fenced;
 use crate::many::{difference, used_output, used_store};
 use crate::seen::Seen;
-use second::convert::{to_first, to_second, Converter};
+use second::convert::{to_first, to_second};
 use second::plan::{Form, Refusal, CAPACITY, SLOTS, TEXT_LIMIT};
 use second::random::{first_form, has_masks, plan_of_size, with_sizes, Rng};
 use second::run::STORE_SIZE;
+use second::tool::Tool;
 
 /// A converter: the proved one, and the second implementation's.
 pub struct Way {
     pub name: &'static str,
-    proved: Converter,
-    second: Converter,
+    proved: Tool,
+    second: Tool,
 }
 
 pub const TO_SECOND: Way = Way {

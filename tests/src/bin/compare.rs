@@ -8,12 +8,13 @@
 
 use second::chain::{longest_chain, LONGEST_LINE};
 use second::chosen::Chosen;
-use second::convert::{to_first, to_second, Converter};
+use second::convert::{to_first, to_second};
 use second::looks::bounds;
 use second::machine::{Machine, Place};
 use second::order::Picks;
 use second::plan::{check, Refusal};
 use second::random::Rng;
+use second::tool::Tool;
 use second::{random, run};
 use std::fmt::Write as _;
 use std::path::{Path, PathBuf};
@@ -140,7 +141,7 @@ fn checked(seed: u64) -> String {
 }
 
 /// The theorem that a converter's definition gives for a text what this implementation gives.
-fn moved(seed: u64, name: &str, convert: Converter) -> String {
+fn moved(seed: u64, name: &str, convert: Tool) -> String {
     let unfolds = format!("afterLine {name}");
     made(seed, name, &random::sample(seed), convert, &unfolds)
 }
@@ -153,7 +154,7 @@ fn chained(seed: u64) -> String {
 
 /// The theorem that a tool's definition gives for a text what this implementation gives; in an
 /// output that is now and then too short.
-fn made(seed: u64, name: &str, text: &[u8], tool: Converter, unfolds: &str) -> String {
+fn made(seed: u64, name: &str, text: &[u8], tool: Tool, unfolds: &str) -> String {
     let mut rng = Rng::new(seed ^ 0xf0);
     let length = tool(text, &mut vec![0; text.len() + LONGEST_LINE]).unwrap_or(text.len());
     let mut output = vec![IN_OUTPUT; (length + rng.index(12)).saturating_sub(2)];

@@ -6,9 +6,9 @@
 use linked::speed::shortest;
 use linked::{bench, chain};
 use second::chain::{LONGEST_LINE, SEARCHED};
-use second::convert::Converter;
 use second::plan::{Refusal, ACCESS_LIMIT, TASK_LIMIT};
 use second::random::Rng;
+use second::tool::Tool;
 use std::hint::black_box;
 
 const PLANS: usize = 16;
@@ -77,7 +77,7 @@ fn plan(rng: &mut Rng, shape: &Shape) -> Vec<u8> {
 }
 
 /// All texts, into an output of its own.
-fn pass(tool: Converter, texts: &[Vec<u8>]) -> impl FnMut(usize) + '_ {
+fn pass(tool: Tool, texts: &[Vec<u8>]) -> impl FnMut(usize) + '_ {
     let mut output = [0; LONGEST_LINE];
     move |_| {
         for text in texts {

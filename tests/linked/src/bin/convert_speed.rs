@@ -7,9 +7,9 @@
 
 use linked::speed::shortest;
 use linked::{bench, convert};
-use second::convert::Converter;
 use second::plan::{Refusal, TEXT_LIMIT};
 use second::random::{first_form, plan_of_size, without_masks, Rng};
+use second::tool::Tool;
 use std::hint::black_box;
 
 const PLANS: usize = 16;
@@ -21,7 +21,7 @@ const STEP: usize = 72;
 const STEPS: usize = 64;
 
 /// Converts all texts, into an output of its own.
-fn pass(convert: Converter, texts: &[Vec<u8>]) -> impl FnMut(usize) + '_ {
+fn pass(convert: Tool, texts: &[Vec<u8>]) -> impl FnMut(usize) + '_ {
     let mut room = vec![0; TEXT_LIMIT + STEP * STEPS];
     move |round| {
         let output = &mut room[round % STEPS * STEP..];
@@ -41,7 +41,7 @@ fn second_checked(text: &[u8], _: &mut [u8]) -> Result<usize, Refusal> {
 }
 
 /// The result of a converter.
-fn moved(convert: Converter, text: &[u8]) -> Vec<u8> {
+fn moved(convert: Tool, text: &[u8]) -> Vec<u8> {
     let mut output = vec![0; TEXT_LIMIT];
     let length = convert(text, &mut output).expect("a result");
     output.truncate(length);
@@ -50,7 +50,7 @@ fn moved(convert: Converter, text: &[u8]) -> Vec<u8> {
 
 /// Measures a converter and the check, the proved ones and the second
 /// implementation's, on these texts.
-fn measure(name: &str, texts: &[Vec<u8>], proved: Converter, second: Converter) {
+fn measure(name: &str, texts: &[Vec<u8>], proved: Tool, second: Tool) {
     let [check, convert, second_check, second_convert] = shortest(
         ROUNDS,
         [
