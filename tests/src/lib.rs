@@ -15,3 +15,4 @@ pub mod report;
 pub mod run;
 pub mod text;
 pub mod tool;
+pub mod used;

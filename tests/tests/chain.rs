@@ -13,23 +13,11 @@ use second::random::{
 };
 use second::run::play;
 use second::text::lines;
+use second::used::{self, assert_fits, Refused};
 
-/// The answer in a used output of this length, of which a result changes its own bytes
-/// alone and a refusal none.
-fn answered(text: &[u8], room: usize) -> Result<Vec<u8>, (u8, u64)> {
-    let used: Vec<u8> = (0..room).map(|place| b'#' ^ place as u8).collect();
-    let mut output = used.clone();
-    match longest_chain(text, &mut output) {
-        Ok(length) => {
-            assert_eq!(output[length..], used[length..]);
-            output.truncate(length);
-            Ok(output)
-        }
-        Err(Refusal { number, line }) => {
-            assert_eq!(output, used);
-            Err((number, line))
-        }
-    }
+/// The answer in a used output of this length.
+fn answered(text: &[u8], room: usize) -> Result<Vec<u8>, Refused> {
+    used::answered(longest_chain, text, room)
 }
 
 /// What is printed for one worker and these tasks, with blanks for tabs and without the
@@ -169,12 +157,7 @@ fn longest_line() {
     assert_eq!(wanted.len(), LONGEST_LINE);
     assert_eq!(LONGEST_LINE, 409);
     assert_eq!(answer_bytes(&text), wanted);
-    for room in 0..409 {
-        assert_eq!(answered(&text, room), Err((8, 0)));
-    }
-    for room in 409..430 {
-        assert_eq!(answered(&text, room), Ok(wanted.clone()));
-    }
+    assert_fits(&wanted, 21, |room| answered(&text, room));
 }
 
 /// 128 tasks of the highest cost, which all write one address.
@@ -280,12 +263,7 @@ fn room_for_the_line() {
         let count = rng.between(0, 40);
         let text = chained(rng, count);
         let wanted = answer_bytes(&text);
-        for room in 0..wanted.len() {
-            assert_eq!(answered(&text, room), Err((8, 0)));
-        }
-        for room in wanted.len()..wanted.len() + 5 {
-            assert_eq!(answered(&text, room), Ok(wanted.clone()));
-        }
+        assert_fits(&wanted, 5, |room| answered(&text, room));
     }
 }
 

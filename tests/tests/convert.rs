@@ -7,6 +7,7 @@ use second::random::{damaged, first_form, plan, plan_of_size, with_sizes, Rng, S
 use second::run;
 use second::text::lines;
 use second::tool::Tool;
+use second::used::{answered, assert_fits, Refused};
 
 const BOTH: [Tool; 2] = [to_second, to_first];
 const REST: [&str; 6] = [
@@ -23,30 +24,12 @@ fn with_rest(first: &str) -> Vec<u8> {
     lines(&[&[first], &REST[..]].concat())
 }
 
-/// Converts into a used output of this length, of which a result changes its own
-/// bytes alone and a refusal none.
-fn converted(convert: Tool, text: &[u8], room: usize) -> Result<Vec<u8>, (u8, u64)> {
-    let used: Vec<u8> = (0..room).map(|place| b'#' ^ place as u8).collect();
-    let mut output = used.clone();
-    match convert(text, &mut output) {
-        Ok(length) => {
-            assert_eq!(output[length..], used[length..]);
-            output.truncate(length);
-            Ok(output)
-        }
-        Err(Refusal { number, line }) => {
-            assert_eq!(output, used);
-            Err((number, line))
-        }
-    }
-}
-
 /// With room for any result.
-fn result(convert: Tool, text: &[u8]) -> Result<Vec<u8>, (u8, u64)> {
-    converted(convert, text, 70_000)
+fn result(convert: Tool, text: &[u8]) -> Result<Vec<u8>, Refused> {
+    answered(convert, text, 70_000)
 }
 
-fn refused(convert: Tool, plan: &[&str]) -> (u8, u64) {
+fn refused(convert: Tool, plan: &[&str]) -> Refused {
     result(convert, &lines(plan)).unwrap_err()
 }
 
@@ -125,11 +108,11 @@ fn order_of_other_sizes() {
     let unended = [&with_rest("W 4 63 8")[..], b"R\t1"].concat();
     assert_eq!(result(to_first, &unended), Err((1, 8)));
     for room in 0..80 {
-        let answer = converted(to_first, &with_rest("W 4 63 8"), room);
+        let answer = answered(to_first, &with_rest("W 4 63 8"), room);
         assert_eq!(answer, Err((10, 1)));
     }
     let full = with_sizes(&sized(65_530), 64, 9);
-    assert_eq!(converted(to_first, &full, 0), Err((10, 1)));
+    assert_eq!(answered(to_first, &full, 0), Err((10, 1)));
     let long = with_sizes(&sized(65_532), 64, 9);
     assert_eq!(result(to_first, &long), Err((6, 0)));
 }
@@ -148,19 +131,19 @@ fn sized(size: usize) -> Vec<u8> {
 fn size_of_the_result() {
     for (size, room) in [(65_530, 65_535), (65_531, 65_536)] {
         let text = sized(size);
-        let moved = converted(to_second, &text, room).unwrap();
+        let moved = answered(to_second, &text, room).unwrap();
         assert_eq!(moved, with_sizes(&text, 64, 8));
         assert_eq!(moved.len(), room);
-        assert_eq!(converted(to_second, &text, room - 1), Err((8, 0)));
-        assert_eq!(converted(to_first, &moved, size), Ok(text));
-        assert_eq!(converted(to_first, &moved, size - 1), Err((8, 0)));
-        assert_eq!(converted(to_second, &moved, room), Ok(moved));
+        assert_eq!(answered(to_second, &text, room - 1), Err((8, 0)));
+        assert_eq!(answered(to_first, &moved, size), Ok(text));
+        assert_eq!(answered(to_first, &moved, size - 1), Err((8, 0)));
+        assert_eq!(answered(to_second, &moved, room), Ok(moved));
     }
     for size in [65_532, 65_535, 65_536] {
         let text = sized(size);
         assert_eq!(result(to_second, &text), Err((6, 0)));
-        assert_eq!(converted(to_second, &text, 0), Err((6, 0)));
-        assert_eq!(converted(to_first, &text, size), Ok(text.clone()));
+        assert_eq!(answered(to_second, &text, 0), Err((6, 0)));
+        assert_eq!(answered(to_first, &text, size), Ok(text.clone()));
         let mut faulty = text;
         faulty[size - 2] = b'x';
         let line = faulty.split(|&byte| byte == b'\n').count() as u64 - 1;
@@ -181,19 +164,14 @@ fn room_for_the_result() {
         (BOTH[1], &second, &first),
         (BOTH[1], &first, &first),
     ] {
-        for room in 0..wanted.len() {
-            assert_eq!(converted(convert, text, room), Err((8, 0)));
-        }
-        for room in wanted.len()..wanted.len() + 20 {
-            assert_eq!(converted(convert, text, room), Ok(wanted.clone()));
-        }
+        assert_fits(wanted, 20, |room| answered(convert, text, room));
     }
     for convert in BOTH {
-        assert_eq!(converted(convert, b"", 0), Err((3, 1)));
-        assert_eq!(converted(convert, b"W\t0\n", 0), Err((2, 1)));
-        assert_eq!(converted(convert, b"W\t2\nX\n", 0), Err((1, 2)));
-        assert_eq!(converted(convert, b"W\t2\t1\t8\n", 0), Err((9, 1)));
-        assert_eq!(converted(convert, &vec![b'W'; 65_537], 0), Err((6, 0)));
+        assert_eq!(answered(convert, b"", 0), Err((3, 1)));
+        assert_eq!(answered(convert, b"W\t0\n", 0), Err((2, 1)));
+        assert_eq!(answered(convert, b"W\t2\nX\n", 0), Err((1, 2)));
+        assert_eq!(answered(convert, b"W\t2\t1\t8\n", 0), Err((9, 1)));
+        assert_eq!(answered(convert, &vec![b'W'; 65_537], 0), Err((6, 0)));
     }
 }
 

@@ -4,13 +4,14 @@
 use crate::chain::longest_chain;
 use crate::check::{self, Difference};
 use crate::fence::Fenced;
-use crate::many::{difference, used_output};
+use crate::many::difference;
 use crate::seen::Seen;
 use second::chain::{line, LONGEST_LINE, SEARCHED};
 use second::chosen::Chosen;
 use second::plan::{check, Form, Plan, Refusal, TASK_LIMIT};
 use second::random::{chained, damaged_chained, Rng};
 use second::tool::write;
+use second::used::used_output;
 use std::hint::black_box;
 
 /// What the second implementation makes of a text, whatever the output.

@@ -8,6 +8,7 @@ use second::machine::{Machine, Place};
 use second::plan::{check, Plan, Refusal};
 use second::random::{damaged, plan, Rng, Shape};
 use second::run::{play, run as second_run, without_owner, Reported, STORE_SIZE};
+use second::used::{used_output, used_store};
 
 /// Where no limit is drawn a run still ends here at the latest.
 const LONG: u64 = 100_000;
@@ -54,17 +55,6 @@ pub fn compare(call: &Call) -> Result<Result<Reported, Refusal>, String> {
 
 pub(crate) fn difference<T: PartialEq>(one: &[T], other: &[T]) -> Option<usize> {
     one.iter().zip(other).position(|(a, b)| a != b)
-}
-
-/// So many numbers as an earlier use may have left.
-pub fn used_store(length: usize, word: u64) -> Vec<u64> {
-    (0..length as u64)
-        .map(|place| word.rotate_left(place as u32).wrapping_add(place))
-        .collect()
-}
-
-pub fn used_output(length: usize, byte: u8) -> Vec<u8> {
-    (0..length).map(|place| byte ^ place as u8).collect()
 }
 
 fn random_text(rng: &mut Rng) -> Vec<u8> {

@@ -6,13 +6,14 @@ use crate::bench::{run, REPORT_SIZE};
 use crate::check::{self, Difference};
 use crate::convert;
 use crate::fence::Fenced;
-use crate::many::{difference, used_output, used_store};
+use crate::many::difference;
 use crate::seen::Seen;
 use second::convert::{to_first, to_second};
 use second::plan::{Form, Refusal, CAPACITY, SLOTS, TEXT_LIMIT};
 use second::random::{first_form, has_masks, plan_of_size, with_sizes, Rng};
 use second::run::STORE_SIZE;
 use second::tool::Tool;
+use second::used::{used_output, used_store};
 
 /// A converter: the proved one, and the second implementation's.
 pub struct Way {

@@ -4,10 +4,10 @@
 use linked::chain::longest_chain;
 use linked::chained::{compare, compare_many, compare_text, longest_plan, nothing_seen};
 use linked::check::Difference;
-use linked::many::used_output;
 use second::chain::line;
 use second::random::{plan_of_size, Rng};
 use second::text::lines;
+use second::used::used_output;
 
 /// Compares one call with an output of this length, and gives the line.
 fn answered(text: &[u8], room: usize) -> Result<String, (u8, u64)> {

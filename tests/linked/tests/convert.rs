@@ -2,10 +2,10 @@
 //! to the second implementation and to the paper's own words.
 
 use linked::check::Difference;
-use linked::many::used_output;
 use linked::moved::{compare, compare_many, compare_text, nothing_seen, Way, TO_FIRST, TO_SECOND};
 use second::random::{first_form, plan_of_size, with_sizes, Rng};
 use second::text::lines;
+use second::used::used_output;
 
 const REST: [&str; 5] = ["T a-1 10 r5 w7", "M 1", "P 0 3", "R 2", "S 9 4"];
 

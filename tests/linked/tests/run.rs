@@ -2,10 +2,11 @@
 //! each held to the second implementation and to the paper's own words.
 
 use linked::bench::{check, run, REPORT_SIZE};
-use linked::many::{compare, compare_many, used_output, used_store, Call};
+use linked::many::{compare, compare_many, Call};
 use second::plan::Refusal;
 use second::run::{answer_bytes, Reported};
 use second::text::lines;
+use second::used::{used_output, used_store};
 
 const STORE: usize = 8_192;
 const LISTING: [&str; 6] = ["W 2", "T a 0", "P 1 3", "P 0 5", "P 1 4", "P 0 2"];

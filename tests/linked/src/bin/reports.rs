@@ -14,9 +14,10 @@
 
 use linked::bench::{run, REPORT_SIZE};
 use linked::known::Known;
-use linked::many::{known_call, used_output, used_store, Call};
+use linked::many::{known_call, Call};
 use second::random::Rng;
 use second::run::STORE_SIZE;
+use second::used::{used_output, used_store};
 use std::io::{self, Write};
 use std::process::exit;
 
