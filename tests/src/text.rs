@@ -1,4 +1,5 @@
-//! Plans as prose shows them: one string a line, blanks for tabs.
+//! Texts for tests: plans as prose shows them, one string a line, blanks for tabs, and
+//! what is near a text.
 
 /// The plan text of the given lines; each gets its line feed.
 pub fn lines(lines: &[&str]) -> Vec<u8> {
@@ -11,4 +12,15 @@ pub fn lines(lines: &[&str]) -> Vec<u8> {
         text.push(b'\n');
     }
     text
+}
+
+/// The text with every byte in every place.
+pub fn with_every_byte(text: &[u8]) -> impl Iterator<Item = Vec<u8>> + '_ {
+    (0..text.len()).flat_map(move |place| {
+        (0..=255).map(move |byte| {
+            let mut changed = text.to_vec();
+            changed[place] = byte;
+            changed
+        })
+    })
 }

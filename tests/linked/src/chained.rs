@@ -2,9 +2,9 @@
 //! the same output, nothing changed around it, and the text as it was.
 
 use crate::chain::longest_chain;
-use crate::check::{self, Difference};
+use crate::check;
+use crate::difference::{self, Difference};
 use crate::fence::Fenced;
-use crate::many::difference;
 use crate::seen::Seen;
 use second::chain::{line, LONGEST_LINE, SEARCHED};
 use second::chosen::Chosen;
@@ -31,7 +31,7 @@ pub fn compare(text: &[u8], line: &Line, output: &[u8]) -> Result<Result<usize, 
     let lent = black_box(lent);
     let what = if answer != expected {
         format!("answer {answer:?}, expected {expected:?}")
-    } else if let Some(place) = difference(fenced.inside(), &second) {
+    } else if let Some(place) = fenced.difference(&second) {
         format!("byte {place} of the output")
     } else if !fenced.stands() {
         "what stands around the output".to_string()
@@ -186,13 +186,5 @@ pub fn compare_text(text: &[u8], rng: &mut Rng, seen: &mut Seen) -> Result<(), S
 
 /// Compares the chains of so many random texts.
 pub fn compare_many(texts: u64, seed: u64) -> Result<Seen, Difference> {
-    let mut rng = Rng::new(seed);
-    let mut seen = nothing_seen();
-    for _ in 0..texts {
-        let text = random_text(&mut rng);
-        if let Err(what) = compare_text(&text, &mut rng, &mut seen) {
-            return Err(Difference { text, what });
-        }
-    }
-    Ok(seen)
+    difference::compare_many(texts, seed, random_text, nothing_seen(), compare_text)
 }

@@ -2,6 +2,7 @@
 //! answers, and as many looks at bytes of a text as there have to be.
 
 use crate::bench::{check, Checked};
+use crate::difference::{self, Difference};
 use second::looks::bounds;
 use second::plan::Refusal;
 use second::random::{damaged, has_masks, plan, Rng, Shape};
@@ -82,22 +83,11 @@ impl Counts {
     }
 }
 
-/// The text on which something differs, and what.
-pub struct Difference {
-    pub text: Vec<u8>,
-    pub what: String,
-}
-
 /// Compares so many random texts, and counts the answers.
 pub fn compare_many(texts: u64, seed: u64) -> Result<Counts, Difference> {
-    let mut rng = Rng::new(seed);
-    let mut counts = Counts::default();
-    for _ in 0..texts {
-        let text = random_text(&mut rng);
-        match compare_text(&text) {
-            Ok(verdict) => counts.add(&text, verdict),
-            Err(what) => return Err(Difference { text, what }),
-        }
-    }
-    Ok(counts)
+    let counts = Counts::default();
+    difference::compare_many(texts, seed, random_text, counts, |text, _, counts| {
+        counts.add(text, compare_text(text)?);
+        Ok(())
+    })
 }

@@ -27,6 +27,12 @@ impl<T: Copy + PartialEq> Fenced<T> {
         &mut self.all[MARGIN..end]
     }
 
+    /// The first place inside that has another element than here.
+    pub fn difference(&self, expected: &[T]) -> Option<usize> {
+        let mut both = self.inside().iter().zip(expected);
+        both.position(|(a, b)| a != b)
+    }
+
     /// Both margins are as they were made.
     pub fn stands(&self) -> bool {
         self.all[..MARGIN] == self.around[..MARGIN]

@@ -10,6 +10,7 @@ pub mod chained;
 pub mod check;
 pub mod convert;
 mod declared;
+pub mod difference;
 pub mod fence;
 pub mod known;
 pub mod lock;

@@ -38,10 +38,10 @@ pub fn compare(call: &Call) -> Result<Result<Reported, Refusal>, String> {
     if answer != expected {
         return Err(format!("answer {answer:?}, expected {expected:?}"));
     }
-    if let Some(place) = difference(store.inside(), &second.store) {
+    if let Some(place) = store.difference(&second.store) {
         return Err(format!("number {place} of the store"));
     }
-    if let Some(place) = difference(output.inside(), &second.output) {
+    if let Some(place) = output.difference(&second.output) {
         return Err(format!("byte {place} of the output"));
     }
     if !store.stands() {
@@ -51,10 +51,6 @@ pub fn compare(call: &Call) -> Result<Result<Reported, Refusal>, String> {
         return Err("what stands around the output".to_string());
     }
     Ok(answer)
-}
-
-pub(crate) fn difference<T: PartialEq>(one: &[T], other: &[T]) -> Option<usize> {
-    one.iter().zip(other).position(|(a, b)| a != b)
 }
 
 fn random_text(rng: &mut Rng) -> Vec<u8> {

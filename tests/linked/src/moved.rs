@@ -3,10 +3,10 @@
 //! the same report of a moved plan.
 
 use crate::bench::{run, REPORT_SIZE};
-use crate::check::{self, Difference};
+use crate::check;
 use crate::convert;
+use crate::difference::{self, Difference};
 use crate::fence::Fenced;
-use crate::many::difference;
 use crate::seen::Seen;
 use second::convert::{to_first, to_second};
 use second::plan::{Form, Refusal, CAPACITY, SLOTS, TEXT_LIMIT};
@@ -47,7 +47,7 @@ pub fn compare(way: &Way, text: &[u8], output: &[u8]) -> Result<Result<Vec<u8>, 
     let expected = (way.second)(text, &mut second);
     let what = if answer != expected {
         format!("answer {answer:?}, expected {expected:?}")
-    } else if let Some(place) = difference(fenced.inside(), &second) {
+    } else if let Some(place) = fenced.difference(&second) {
         format!("byte {place} of the output")
     } else if !fenced.stands() {
         "what stands around the output".to_string()
@@ -199,13 +199,5 @@ fn report(text: &[u8]) -> (u64, Vec<u8>) {
 
 /// Compares both converters on so many random texts.
 pub fn compare_many(texts: u64, seed: u64) -> Result<Seen, Difference> {
-    let mut rng = Rng::new(seed);
-    let mut seen = nothing_seen();
-    for _ in 0..texts {
-        let text = random_text(&mut rng);
-        if let Err(what) = compare_text(&text, &mut rng, &mut seen) {
-            return Err(Difference { text, what });
-        }
-    }
-    Ok(seen)
+    difference::compare_many(texts, seed, random_text, nothing_seen(), compare_text)
 }

@@ -3,10 +3,10 @@
 
 use linked::chain::longest_chain;
 use linked::chained::{compare, compare_many, compare_text, longest_plan, nothing_seen};
-use linked::check::Difference;
+use linked::difference::shown;
 use second::chain::line;
 use second::random::{plan_of_size, Rng};
-use second::text::lines;
+use second::text::{lines, with_every_byte};
 use second::used::used_output;
 
 /// Compares one call with an output of this length, and gives the line.
@@ -29,13 +29,6 @@ fn fields(plan: &[&str]) -> String {
 fn same(text: &[u8]) {
     let (rng, seen) = (&mut Rng::new(1), &mut nothing_seen());
     compare_text(text, rng, seen).unwrap_or_else(|what| panic!("{what}: {}", shown(text)));
-}
-
-fn shown(text: &[u8]) -> String {
-    format!(
-        "{:?}",
-        String::from_utf8_lossy(&text[..text.len().min(300)])
-    )
 }
 
 #[test]
@@ -154,13 +147,11 @@ fn every_byte_in_every_place() {
         "T c 5 r7 r5",
         "R 2",
     ]);
-    for place in 0..plan.len() {
-        for byte in 0..=255 {
-            let mut text = plan.clone();
-            text[place] = byte;
-            same(&text);
-        }
-        same(&plan[..place]);
+    for text in with_every_byte(&plan) {
+        same(&text);
+    }
+    for end in 0..plan.len() {
+        same(&plan[..end]);
     }
 }
 
@@ -168,6 +159,6 @@ fn every_byte_in_every_place() {
 fn random_texts() {
     match compare_many(4_000, 2_028) {
         Ok(seen) => assert_eq!(seen.rarer_than(5), [""; 0], "{seen:?}"),
-        Err(Difference { text, what }) => panic!("{what}: {}", shown(&text)),
+        Err(difference) => panic!("{difference}"),
     }
 }

@@ -1,10 +1,10 @@
 //! The proved converters: results, refusals and what they leave in the output, held
 //! to the second implementation and to the paper's own words.
 
-use linked::check::Difference;
+use linked::difference::shown;
 use linked::moved::{compare, compare_many, compare_text, nothing_seen, Way, TO_FIRST, TO_SECOND};
 use second::random::{first_form, plan_of_size, with_sizes, Rng};
-use second::text::lines;
+use second::text::{lines, with_every_byte};
 use second::used::used_output;
 
 const REST: [&str; 5] = ["T a-1 10 r5 w7", "M 1", "P 0 3", "R 2", "S 9 4"];
@@ -24,13 +24,6 @@ fn converted(way: &Way, text: &[u8], room: usize) -> Result<Vec<u8>, (u8, u64)> 
 fn same(text: &[u8]) {
     let (rng, seen) = (&mut Rng::new(1), &mut nothing_seen());
     compare_text(text, rng, seen).unwrap_or_else(|what| panic!("{what}: {}", shown(text)));
-}
-
-fn shown(text: &[u8]) -> String {
-    format!(
-        "{:?}",
-        String::from_utf8_lossy(&text[..text.len().min(300)])
-    )
 }
 
 #[test]
@@ -138,13 +131,11 @@ fn all_sizes() {
 fn every_byte_in_every_place() {
     for first in ["W 2", "W 2 10 8", "W 12 64 8"] {
         let plan = with_rest(first);
-        for place in 0..plan.len() {
-            for byte in 0..=255 {
-                let mut text = plan.clone();
-                text[place] = byte;
-                same(&text);
-            }
-            same(&plan[..place]);
+        for text in with_every_byte(&plan) {
+            same(&text);
+        }
+        for end in 0..plan.len() {
+            same(&plan[..end]);
         }
     }
 }
@@ -153,6 +144,6 @@ fn every_byte_in_every_place() {
 fn random_texts() {
     match compare_many(3_000, 2_027) {
         Ok(seen) => assert_eq!(seen.rarer_than(20), [""; 0], "{seen:?}"),
-        Err(Difference { text, what }) => panic!("{what}: {}", shown(&text)),
+        Err(difference) => panic!("{difference}"),
     }
 }

@@ -1,9 +1,11 @@
 //! The proved reader beside the second implementation's, and its looks at bytes.
 
 use linked::bench::{check, Checked};
-use linked::check::{compare_many, compare_text, Difference};
+use linked::check::{compare_many, compare_text};
+use linked::difference::shown;
 use second::plan::Refusal;
 use second::random::{plan_of_size, Rng};
+use second::text::with_every_byte;
 
 /// Plans with every kind of line, the last one with the longest fields.
 const PLANS: [&str; 4] = [
@@ -13,13 +15,6 @@ const PLANS: [&str; 4] = [
     "W\t32\t64\t16\nT\t0123456789abcdef\t1000\tr65535\tw0\tr10\tw11\nM\t4294967295\n\
      S\t18446744073709551615\t1000000\nP\t31\t4096\nR\t1000000\n",
 ];
-
-fn shown(text: &[u8]) -> String {
-    format!(
-        "{:?}",
-        String::from_utf8_lossy(&text[..text.len().min(200)])
-    )
-}
 
 fn same(text: &[u8]) {
     if let Err(what) = compare_text(text) {
@@ -53,7 +48,7 @@ fn random_and_damaged_texts() {
             let (several, before) = (counts.of_several, counts.before_the_last);
             assert!(several >= 5_000 && before >= 5_000, "{counts:?}");
         }
-        Err(Difference { text, what }) => panic!("{what}: {}", shown(&text)),
+        Err(difference) => panic!("{difference}"),
     }
 }
 
@@ -106,12 +101,8 @@ fn long_fields() {
 #[test]
 fn every_byte_in_every_place() {
     for plan in PLANS {
-        for place in 0..plan.len() {
-            for byte in 0..=255 {
-                let mut text = plan.as_bytes().to_vec();
-                text[place] = byte;
-                same(&text);
-            }
+        for text in with_every_byte(plan.as_bytes()) {
+            same(&text);
         }
     }
 }

@@ -5,7 +5,7 @@
 
 use linked::arguments::count_and_seed;
 use linked::chained::compare_many;
-use linked::check::Difference;
+use linked::difference::Difference;
 use std::io::Write;
 use std::process::exit;
 

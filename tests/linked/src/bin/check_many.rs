@@ -2,7 +2,8 @@
 //! on COUNT random and damaged texts, and its looks at their bytes to a count.
 
 use linked::arguments::count_and_seed;
-use linked::check::{compare_many, Difference};
+use linked::check::compare_many;
+use linked::difference::Difference;
 use std::io::Write;
 use std::process::exit;
 

@@ -4,7 +4,7 @@
 //! where a count of 10,000 or more leaves out a kind of case.
 
 use linked::arguments::count_and_seed;
-use linked::check::Difference;
+use linked::difference::Difference;
 use linked::moved::compare_many;
 use std::io::Write;
 use std::process::exit;
