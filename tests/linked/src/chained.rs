@@ -1,46 +1,28 @@
-//! The proved longest chain beside the second implementation's: the same answer and
-//! the same output, nothing changed around it, and the text as it was.
+//! The proved longest chain beside the second implementation's.
 
+use crate::beside::{self, around, Answer, Comparison};
 use crate::chain::longest_chain;
 use crate::check;
-use crate::difference::{self, Difference};
-use crate::fence::Fenced;
 use crate::seen::Seen;
 use second::chain::{line, LONGEST_LINE, SEARCHED};
 use second::chosen::Chosen;
-use second::plan::{check, Form, Plan, Refusal, TASK_LIMIT};
+use second::plan::{check, Form, Plan, TASK_LIMIT};
 use second::random::{chained, damaged_chained, Rng};
 use second::tool::write;
 use second::used::used_output;
-use std::hint::black_box;
 
-/// What the second implementation makes of a text, whatever the output.
-pub type Line = Result<Vec<u8>, Refusal>;
+pub const CHAINS: Comparison = Comparison {
+    name: "chains",
+    nothing_seen,
+    random_text,
+    compare_text,
+};
 
-/// The answer of one call on a text of this line, or else what differs.
-pub fn compare(text: &[u8], line: &Line, output: &[u8]) -> Result<Result<usize, Refusal>, String> {
-    let lent = Fenced::new(text, |place| b"\t1\nT"[place % 4]);
-    let mut fenced = Fenced::new(output, |place| place as u8 ^ 0xa5);
-    let answer = longest_chain(lent.inside(), fenced.lend());
-    let mut second = output.to_vec();
-    let expected = match line {
-        Ok(line) => write(line, &mut second),
-        Err(refusal) => Err(*refusal),
-    };
-    // the text was lent as one that isn't changed, and might not be looked at again
-    let lent = black_box(lent);
-    let what = if answer != expected {
-        format!("answer {answer:?}, expected {expected:?}")
-    } else if let Some(place) = fenced.difference(&second) {
-        format!("byte {place} of the output")
-    } else if !fenced.stands() {
-        "what stands around the output".to_string()
-    } else if lent.inside() != text || !lent.stands() {
-        "the text".to_string()
-    } else {
-        return Ok(expected);
-    };
-    Err(format!("output of {}: {what}", output.len()))
+/// The answer to one call, or else what differs. The line is what the second
+/// implementation makes of the text, whatever the output.
+pub fn compare(text: &[u8], line: &Answer, output: &[u8]) -> Result<Answer, String> {
+    let second = |output: &mut [u8]| write(line.as_ref().map_err(|&refusal| refusal)?, output);
+    beside::compare(longest_chain, second, text, output)
 }
 
 const NO_TASKS: &str = "no tasks";
@@ -81,8 +63,7 @@ fn refused(number: u8) -> String {
     format!("refused with {number}")
 }
 
-/// All kinds of texts and calls, none of them met.
-pub fn nothing_seen() -> Seen {
+fn nothing_seen() -> Seen {
     let mut kinds = Vec::new();
     for way in WAYS.map(way) {
         kinds.push(way.to_string());
@@ -103,7 +84,7 @@ pub fn nothing_seen() -> Seen {
     Seen::none_of(kinds)
 }
 
-fn add_text(seen: &mut Seen, text: &[u8], line: &Line) {
+fn add_text(seen: &mut Seen, text: &[u8], line: &Answer) {
     match (check(text), line) {
         (Ok(plan), Ok(line)) => add_plan(seen, &plan, line),
         (_, Err(refusal)) => seen.add(&refused(refusal.number)),
@@ -148,7 +129,7 @@ fn add_call(seen: &mut Seen, line: &[u8], room: usize) {
 
 /// A text with few tasks, many or all, with conflicts and costs of all kinds; or any
 /// text, mostly a damaged one.
-pub fn random_text(rng: &mut Rng) -> Vec<u8> {
+fn random_text(rng: &mut Rng) -> Vec<u8> {
     let count = match rng.below(16) {
         0..=7 => rng.between(0, SEARCHED as u64),
         8..=11 => rng.between(SEARCHED as u64 + 1, 40),
@@ -170,21 +151,16 @@ pub fn longest_plan(rng: &mut Rng) -> Vec<u8> {
 }
 
 /// Compares the calls on a text with outputs of all lengths around that of its line.
-pub fn compare_text(text: &[u8], rng: &mut Rng, seen: &mut Seen) -> Result<(), String> {
+fn compare_text(text: &[u8], rng: &mut Rng, seen: &mut Seen) -> Result<(), String> {
     let line = line(text);
     add_text(seen, text, &line);
     let length = line.as_ref().map_or(4, Vec::len);
     let any = [0, 1, rng.index(length), length + rng.index(400)];
-    for room in (length.saturating_sub(2)..length + 3).chain(any) {
+    for room in around(length).chain(any) {
         compare(text, &line, &used_output(room, rng.byte()))?.ok();
         if let Ok(line) = &line {
             add_call(seen, line, room);
         }
     }
     Ok(())
-}
-
-/// Compares the chains of so many random texts.
-pub fn compare_many(texts: u64, seed: u64) -> Result<Seen, Difference> {
-    difference::compare_many(texts, seed, random_text, nothing_seen(), compare_text)
 }

@@ -1,12 +1,10 @@
-//! The proved converters beside the second implementation's: the same answer and
-//! the same output, nothing changed around it, the old bytes on the way back, and
-//! the same report of a moved plan.
+//! The proved converters beside the second implementation's: what is asked of every
+//! tool, the old bytes on the way back, and the same report of a moved plan.
 
 use crate::bench::{run, REPORT_SIZE};
+use crate::beside::{self, around, Answer, Comparison};
 use crate::check;
 use crate::convert;
-use crate::difference::{self, Difference};
-use crate::fence::Fenced;
 use crate::seen::Seen;
 use second::convert::{to_first, to_second};
 use second::plan::{Form, Refusal, CAPACITY, SLOTS, TEXT_LIMIT};
@@ -39,22 +37,18 @@ const LONGER: usize = 5;
 const PICKS: u64 = 3_000;
 const RUN_ONE_IN: u64 = 4;
 
-/// The result of one call, or its refusal; or else what differs.
-pub fn compare(way: &Way, text: &[u8], output: &[u8]) -> Result<Result<Vec<u8>, Refusal>, String> {
-    let mut fenced = Fenced::new(output, |place| place as u8 ^ 0xa5);
-    let answer = (way.proved)(text, fenced.lend());
-    let mut second = output.to_vec();
-    let expected = (way.second)(text, &mut second);
-    let what = if answer != expected {
-        format!("answer {answer:?}, expected {expected:?}")
-    } else if let Some(place) = fenced.difference(&second) {
-        format!("byte {place} of the output")
-    } else if !fenced.stands() {
-        "what stands around the output".to_string()
-    } else {
-        return Ok(expected.map(|length| second[..length].to_vec()));
-    };
-    Err(format!("{}, output of {}: {what}", way.name, output.len()))
+pub const CONVERTERS: Comparison = Comparison {
+    name: "converters",
+    nothing_seen,
+    random_text,
+    compare_text,
+};
+
+/// The answer to one call, or else what differs.
+pub fn compare(way: &Way, text: &[u8], output: &[u8]) -> Result<Answer, String> {
+    let second = |output: &mut [u8]| (way.second)(text, output);
+    let compared = beside::compare(way.proved, second, text, output);
+    compared.map_err(|what| format!("{}, {what}", way.name))
 }
 
 const LONG_RESULT: &str = "to-second: refused with 6 by its result";
@@ -73,8 +67,7 @@ fn refused(way: &Way, number: u8) -> String {
     kind(way, &format!("refused with {number}"))
 }
 
-/// All kinds of calls and texts, none of them met.
-pub fn nothing_seen() -> Seen {
+fn nothing_seen() -> Seen {
     let mut kinds = Vec::new();
     for way in [TO_SECOND, TO_FIRST] {
         let results = [
@@ -93,7 +86,7 @@ pub fn nothing_seen() -> Seen {
     Seen::none_of(kinds)
 }
 
-fn add_answer(seen: &mut Seen, way: &Way, text: &[u8], answer: &Result<Vec<u8>, Refusal>) {
+fn add_answer(seen: &mut Seen, way: &Way, text: &[u8], answer: &Answer) {
     match answer {
         Ok(result) => {
             let changed = if result == text { "unchanged" } else { "moved" };
@@ -114,7 +107,7 @@ fn add_answer(seen: &mut Seen, way: &Way, text: &[u8], answer: &Result<Vec<u8>, 
 
 /// A text of either form, sound or damaged, often with sizes of 64 and 8 or nearly
 /// so, and at times so long that its result is or is not too long.
-pub fn random_text(rng: &mut Rng) -> Vec<u8> {
+fn random_text(rng: &mut Rng) -> Vec<u8> {
     let text = match rng.below(24) {
         0 => {
             let size = TEXT_LIMIT - LONGER - 1 + rng.choose(&[0, 1, 2, LONGER, LONGER + 1]);
@@ -135,12 +128,12 @@ pub fn random_text(rng: &mut Rng) -> Vec<u8> {
 
 /// Compares both converters on a text, with outputs of all lengths around that of
 /// the result, and what can be done with a result.
-pub fn compare_text(text: &[u8], rng: &mut Rng, seen: &mut Seen) -> Result<(), String> {
+fn compare_text(text: &[u8], rng: &mut Rng, seen: &mut Seen) -> Result<(), String> {
     for (way, back) in [(TO_SECOND, TO_FIRST), (TO_FIRST, TO_SECOND)] {
         let room = text.len() + LONGER + rng.index(400);
         let result = compare(&way, text, &used_output(room, rng.byte()))?;
         let length = result.as_ref().map_or(text.len(), Vec::len);
-        for room in (0..2).chain(length.saturating_sub(2)..length + 3) {
+        for room in (0..2).chain(around(length)) {
             let answer = compare(&way, text, &used_output(room, rng.byte()))?;
             add_answer(seen, &way, text, &answer);
         }
@@ -195,9 +188,4 @@ fn report(text: &[u8]) -> (u64, Vec<u8>) {
     let reported = run(text, PICKS, &mut store, &mut output).expect("a report");
     output.truncate(reported.length);
     (reported.picks, output)
-}
-
-/// Compares both converters on so many random texts.
-pub fn compare_many(texts: u64, seed: u64) -> Result<Seen, Difference> {
-    difference::compare_many(texts, seed, random_text, nothing_seen(), compare_text)
 }

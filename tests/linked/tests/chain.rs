@@ -1,34 +1,26 @@
 //! The proved longest chain: lines, refusals and what is left in the output, held to
 //! the second implementation and to the paper's own words.
 
+use linked::beside::agreed;
 use linked::chain::longest_chain;
-use linked::chained::{compare, compare_many, compare_text, longest_plan, nothing_seen};
-use linked::difference::shown;
+use linked::chained::{compare, longest_plan, CHAINS};
 use second::chain::line;
 use second::random::{plan_of_size, Rng};
-use second::text::{lines, with_every_byte};
-use second::used::used_output;
+use second::text::lines;
+use second::used::{self, used_output, Refused};
 
 /// Compares one call with an output of this length, and gives the line.
-fn answered(text: &[u8], room: usize) -> Result<String, (u8, u64)> {
-    let mut output = used_output(room, 77);
-    let answer = compare(text, &line(text), &output);
-    let answer = answer.unwrap_or_else(|what| panic!("{what}: {}", shown(text)));
-    assert_eq!(longest_chain(text, &mut output), answer);
-    let length = answer.map_err(|refusal| (refusal.number, refusal.line))?;
-    Ok(String::from_utf8(output[..length].to_vec()).expect("ASCII"))
+fn answered(text: &[u8], room: usize) -> Result<String, Refused> {
+    let compared = compare(text, &line(text), &used_output(room, 77));
+    let answer = agreed(text, compared);
+    assert_eq!(used::answered(longest_chain, text, room), answer);
+    Ok(String::from_utf8(answer?).expect("ASCII"))
 }
 
 /// The fields of the line of a plan, with blanks for tabs.
 fn fields(plan: &[&str]) -> String {
     let line = answered(&lines(plan), 409).expect("a line");
     line.strip_suffix('\n').expect("its end").replace('\t', " ")
-}
-
-/// Compares with all outputs that matter.
-fn same(text: &[u8]) {
-    let (rng, seen) = (&mut Rng::new(1), &mut nothing_seen());
-    compare_text(text, rng, seen).unwrap_or_else(|what| panic!("{what}: {}", shown(text)));
 }
 
 #[test]
@@ -115,7 +107,7 @@ fn sizes_of_texts() {
         let answer = answered(&text, 409);
         assert_eq!(answer == Err((6, 0)), size > 65_536);
         assert!(answer.is_ok() || size > 65_536);
-        same(&text);
+        CHAINS.assert_same(&text);
     }
 }
 
@@ -130,7 +122,7 @@ fn all_small_plans() {
                     let mut costs = costs.split(' ');
                     let mut task = |uses| format!("T a {}{uses}", costs.next().expect("a cost"));
                     let tasks = [task(one), task(two), task(three)];
-                    same(&lines(&["W 1", &tasks[0], &tasks[1], &tasks[2]]));
+                    CHAINS.assert_same(&lines(&["W 1", &tasks[0], &tasks[1], &tasks[2]]));
                 }
             }
         }
@@ -147,18 +139,10 @@ fn every_byte_in_every_place() {
         "T c 5 r7 r5",
         "R 2",
     ]);
-    for text in with_every_byte(&plan) {
-        same(&text);
-    }
-    for end in 0..plan.len() {
-        same(&plan[..end]);
-    }
+    CHAINS.assert_same_near(&plan);
 }
 
 #[test]
 fn random_texts() {
-    match compare_many(4_000, 2_028) {
-        Ok(seen) => assert_eq!(seen.rarer_than(5), [""; 0], "{seen:?}"),
-        Err(difference) => panic!("{difference}"),
-    }
+    CHAINS.assert_many(4_000, 2_028, 5);
 }

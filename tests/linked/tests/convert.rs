@@ -1,11 +1,11 @@
 //! The proved converters: results, refusals and what they leave in the output, held
 //! to the second implementation and to the paper's own words.
 
-use linked::difference::shown;
-use linked::moved::{compare, compare_many, compare_text, nothing_seen, Way, TO_FIRST, TO_SECOND};
+use linked::beside::agreed;
+use linked::moved::{compare, Way, CONVERTERS, TO_FIRST, TO_SECOND};
 use second::random::{first_form, plan_of_size, with_sizes, Rng};
-use second::text::{lines, with_every_byte};
-use second::used::used_output;
+use second::text::lines;
+use second::used::{assert_fits, used_output, Refused};
 
 const REST: [&str; 5] = ["T a-1 10 r5 w7", "M 1", "P 0 3", "R 2", "S 9 4"];
 
@@ -14,16 +14,13 @@ fn with_rest(first: &str) -> Vec<u8> {
 }
 
 /// Compares one call with an output of this length, and gives the answer.
-fn converted(way: &Way, text: &[u8], room: usize) -> Result<Vec<u8>, (u8, u64)> {
-    let answer = compare(way, text, &used_output(room, 77));
-    let answer = answer.unwrap_or_else(|what| panic!("{what}: {}", shown(text)));
-    answer.map_err(|refusal| (refusal.number, refusal.line))
+fn converted(way: &Way, text: &[u8], room: usize) -> Result<Vec<u8>, Refused> {
+    agreed(text, compare(way, text, &used_output(room, 77)))
 }
 
 /// Compares both ways with all outputs that matter.
 fn same(text: &[u8]) {
-    let (rng, seen) = (&mut Rng::new(1), &mut nothing_seen());
-    compare_text(text, rng, seen).unwrap_or_else(|what| panic!("{what}: {}", shown(text)));
+    CONVERTERS.assert_same(text);
 }
 
 #[test]
@@ -47,12 +44,7 @@ fn output_lengths() {
         (&TO_FIRST, &second, &first),
         (&TO_FIRST, &first, &first),
     ] {
-        for room in 0..wanted.len() {
-            assert_eq!(converted(way, text, room), Err((8, 0)));
-        }
-        for room in wanted.len()..wanted.len() + 40 {
-            assert_eq!(converted(way, text, room), Ok(wanted.clone()));
-        }
+        assert_fits(wanted, 40, |room| converted(way, text, room));
     }
 }
 
@@ -130,20 +122,11 @@ fn all_sizes() {
 #[test]
 fn every_byte_in_every_place() {
     for first in ["W 2", "W 2 10 8", "W 12 64 8"] {
-        let plan = with_rest(first);
-        for text in with_every_byte(&plan) {
-            same(&text);
-        }
-        for end in 0..plan.len() {
-            same(&plan[..end]);
-        }
+        CONVERTERS.assert_same_near(&with_rest(first));
     }
 }
 
 #[test]
 fn random_texts() {
-    match compare_many(3_000, 2_027) {
-        Ok(seen) => assert_eq!(seen.rarer_than(20), [""; 0], "{seen:?}"),
-        Err(difference) => panic!("{difference}"),
-    }
+    CONVERTERS.assert_many(3_000, 2_027, 20);
 }

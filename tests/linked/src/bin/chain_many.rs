@@ -4,7 +4,7 @@
 //! and where a count of 10,000 or more leaves out a kind of case.
 
 use linked::arguments::count_and_seed;
-use linked::chained::compare_many;
+use linked::chained::CHAINS;
 use linked::difference::Difference;
 use std::io::Write;
 use std::process::exit;
@@ -14,7 +14,7 @@ const ENOUGH: u64 = 10_000;
 
 fn main() {
     let (count, seed) = count_and_seed("chain_many");
-    match compare_many(count, seed) {
+    match CHAINS.many(count, seed) {
         Ok(seen) => {
             println!("{count} texts from seed {seed}, no difference");
             for (kind, times) in seen.all() {

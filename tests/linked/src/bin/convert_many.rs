@@ -5,7 +5,7 @@
 
 use linked::arguments::count_and_seed;
 use linked::difference::Difference;
-use linked::moved::compare_many;
+use linked::moved::CONVERTERS;
 use std::io::Write;
 use std::process::exit;
 
@@ -14,7 +14,7 @@ const ENOUGH: u64 = 10_000;
 
 fn main() {
     let (count, seed) = count_and_seed("convert_many");
-    match compare_many(count, seed) {
+    match CONVERTERS.many(count, seed) {
         Ok(seen) => {
             println!("{count} texts from seed {seed}, no difference");
             for (kind, times) in seen.all() {
