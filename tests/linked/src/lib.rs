@@ -17,5 +17,6 @@ pub mod known;
 pub mod lock;
 pub mod many;
 pub mod moved;
+pub mod program;
 pub mod seen;
 pub mod speed;
