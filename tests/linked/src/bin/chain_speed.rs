@@ -3,10 +3,10 @@
 //! tasks conflict in different ways. The second implementation finds the chains of so
 //! many tasks by its programme, and not by a search.
 
-use linked::speed::shortest;
-use linked::{bench, chain};
+use linked::chain;
+use linked::speed::beside_the_check;
 use second::chain::{LONGEST_LINE, SEARCHED};
-use second::plan::{Refusal, ACCESS_LIMIT, TASK_LIMIT};
+use second::plan::{ACCESS_LIMIT, TASK_LIMIT};
 use second::random::Rng;
 use second::tool::Tool;
 use std::hint::black_box;
@@ -86,44 +86,25 @@ fn pass(tool: Tool, texts: &[Vec<u8>]) -> impl FnMut(usize) + '_ {
     }
 }
 
-/// The check, with the arguments of a tool.
-fn checked(text: &[u8], _: &mut [u8]) -> Result<usize, Refusal> {
-    bench::check(text).verdict.map(|()| 0)
-}
-
-fn second_checked(text: &[u8], _: &mut [u8]) -> Result<usize, Refusal> {
-    second::plan::check(text).map(|plan| plan.tasks.len())
-}
-
 fn measure(name: &str, texts: &[Vec<u8>]) {
-    let [check, found, second_check, second_found] = shortest(
-        ROUNDS,
-        [
-            &mut pass(checked, texts),
-            &mut pass(chain::longest_chain, texts),
-            &mut pass(second_checked, texts),
-            &mut pass(second::chain::longest_chain, texts),
-        ],
-    );
+    let (proved, second) = (chain::longest_chain, second::chain::longest_chain);
+    let [proved, second] = beside_the_check(ROUNDS, proved, second, |tool| pass(tool, texts));
     let bytes: usize = texts.iter().map(Vec::len).sum();
     println!("{name}, {} bytes", bytes / texts.len());
-    for (what, check, found) in [
-        ("proved", check, found),
-        ("second implementation", second_check, second_found),
-    ] {
+    for (what, times) in [("proved", &proved), ("second implementation", &second)] {
         let each = |time: f64| time / texts.len() as f64 * 1e6;
         println!(
             "  {what:22} check {:6.1} µs, chain {:7.1} µs, beyond the check {:7.1} µs",
-            each(check),
-            each(found),
-            each(found - check)
+            each(times.check),
+            each(times.tool),
+            each(times.tool - times.check)
         );
     }
     println!(
         "  ratio of times: check {:.2}, chain {:.2}, beyond the check {:.2}",
-        check / second_check,
-        found / second_found,
-        (found - check) / (second_found - second_check)
+        proved.check / second.check,
+        proved.tool / second.tool,
+        (proved.tool - proved.check) / (second.tool - second.check)
     );
 }
 

@@ -5,9 +5,9 @@
 //! A converter checks its text and then copies it. Its speed beyond the check is that
 //! of the time which it takes longer than the check of the same text.
 
-use linked::speed::shortest;
-use linked::{bench, convert};
-use second::plan::{Refusal, TEXT_LIMIT};
+use linked::convert;
+use linked::speed::beside_the_check;
+use second::plan::TEXT_LIMIT;
 use second::random::{first_form, plan_of_size, without_masks, Rng};
 use second::tool::Tool;
 use std::hint::black_box;
@@ -31,15 +31,6 @@ fn pass(convert: Tool, texts: &[Vec<u8>]) -> impl FnMut(usize) + '_ {
     }
 }
 
-/// The check, with the arguments of a converter.
-fn checked(text: &[u8], _: &mut [u8]) -> Result<usize, Refusal> {
-    bench::check(text).verdict.map(|()| 0)
-}
-
-fn second_checked(text: &[u8], _: &mut [u8]) -> Result<usize, Refusal> {
-    second::plan::check(text).map(|plan| plan.tasks.len())
-}
-
 /// The result of a converter.
 fn moved(convert: Tool, text: &[u8]) -> Vec<u8> {
     let mut output = vec![0; TEXT_LIMIT];
@@ -51,40 +42,29 @@ fn moved(convert: Tool, text: &[u8]) -> Vec<u8> {
 /// Measures a converter and the check, the proved ones and the second
 /// implementation's, on these texts.
 fn measure(name: &str, texts: &[Vec<u8>], proved: Tool, second: Tool) {
-    let [check, convert, second_check, second_convert] = shortest(
-        ROUNDS,
-        [
-            &mut pass(checked, texts),
-            &mut pass(proved, texts),
-            &mut pass(second_checked, texts),
-            &mut pass(second, texts),
-        ],
-    );
+    let [proved, second] = beside_the_check(ROUNDS, proved, second, |tool| pass(tool, texts));
     let bytes: usize = texts.iter().map(Vec::len).sum();
     println!("{name}, {} bytes", bytes / texts.len());
-    for (what, check, convert) in [
-        ("proved", check, convert),
-        ("second implementation", second_check, second_convert),
-    ] {
+    for (what, times) in [("proved", &proved), ("second implementation", &second)] {
         let each = |time: f64| time / texts.len() as f64 * 1e9;
-        let beyond = convert - check;
+        let beyond = times.tool - times.check;
         // less than a twentieth of the check can't be told from its own spread
-        let speed = if beyond * 20.0 > check {
+        let speed = if beyond * 20.0 > times.check {
             format!("{:.0} MB/s", bytes as f64 / beyond / 1e6)
         } else {
             "too fast to tell".to_string()
         };
         println!(
             "  {what:22} check {:7.0} ns, conversion {:7.0} ns, beyond the check {:6.0} ns, {speed}",
-            each(check),
-            each(convert),
+            each(times.check),
+            each(times.tool),
             each(beyond)
         );
     }
     println!(
         "  ratio of times: check {:.2}, conversion {:.2}",
-        check / second_check,
-        convert / second_convert
+        proved.check / second.check,
+        proved.tool / second.tool
     );
 }
 
