@@ -1,5 +1,5 @@
 -- What the longest chain of a plan says of the plan's own run, and of what `run` answers: how many picks were taken at the least.
-use Prim.Native.Nat.{ℕ, _+_, _*_, _≤_, _<_}
+use Prim.Native.Nat.{ℕ, _+_, _*_, _≤_}
 use native.Mathlib.Omega.{arith}
 use mathlib.Core.Path.{_≡_, sym, ap, _∙_}
 use mathlib.Core.Logic.{⊎-elim}
@@ -12,12 +12,13 @@ use Rattle.plan.specs.Plan.{Plan}
 use Rattle.plan.specs.Chains.{Chain, chainCost, lastOf, last-below}
 use Rattle.plan.specs.Orders.{OnlyRounds}
 use Rattle.plan.specs.Reading.{Reading, accepted, reading}
+use Rattle.tasks.specs.Tasks.{over}
 use Rattle.tasks.specs.Playing.{all-over}
 use Rattle.machine.specs.Step.{finished}
 use Rattle.report.specs.Report.{totalPermitted}
 use Rattle.tools.specs.Result.{result, ofPlan}
 use Rattle.chain.specs.Longest.{longest, chainLine, chainOf}
-use Rattle.chain.specs.Ordered.{longest-chain, longest-none}
+use Rattle.chain.specs.Ordered.{longest-or-none}
 use Rattle.orders.specs.Reached.{setupOf, reached}
 use Rattle.orders.specs.AcceptedRuns.{own-chains, own-at-least}
 use Rattle.play.specs.declared.Answer.the-variants.{Reports}
@@ -41,28 +42,20 @@ module _ (text : List ℕ) (p : Plan) (e : reading text ≡ accepted p) where
     pub own-span : (i : ℕ) (is : List ℕ) → longest (p .tasks) ≡ i ∷ is
         → (reached p limit) .tasks .receipt i + (longestSum p + length (i ∷ is)) ≤ (reached p limit) .tasks .ending (lastOf i is)
     own-span i is q =
-        let chain : Chain (p .tasks) (i ∷ is) = rw q at (longest-chain (p .tasks) some .one) in
-        let over =
+        let ended : (reached p limit) .tasks .status (lastOf i is) ≡ over =
         all-over (p .workers) (p .tasks) ((reached p limit) .tasks) ((reached p limit) .stand) done (lastOf i is)
         (last-below (p .tasks) i is chain) in
-        rw q (own-chains text p e limit .span i is chain over)
+        rw q (own-chains text p e limit .span i is chain ended)
       where
-        -- a plan without tasks has no longest chain
-        some : 0 < length (p .tasks)
-        some =
-            ⊎-elim (λ l. l)
-            (λ (l : length (p .tasks) ≤ 0).
-            let z : [] ≡ i ∷ is = sym (longest-none (p .tasks) (omega arith)) ∙ q in absurd (omega (arith, ap length z)))
-            (order 0 (length (p .tasks)))
+        chain : Chain (p .tasks) (i ∷ is)
+        chain = ⊎-elim (λ h. rw q at (h .one)) (λ z. absurd (omega (arith, ap length (sym z ∙ q)))) (longest-or-none (p .tasks))
 
     -- under an order of R lines alone a finished run took at least W times the sum, and W more for each task of the chain
     pub own-longest : OnlyRounds (p .orders) → p .workers * (longestSum p + length (longest (p .tasks))) ≤ (reached p limit) .picks
     unfolding chainCost
     own-longest only =
-        ⊎-elim
-        (λ (l : 0 < length (p .tasks)). own-at-least text p e only limit done (longest (p .tasks)) (longest-chain (p .tasks) l .one))
-        (λ (l : length (p .tasks) ≤ 0). rw (longest-none (p .tasks) (omega arith)) (omega arith))
-        (order 0 (length (p .tasks)))
+        ⊎-elim (λ h. own-at-least text p e only limit done (longest (p .tasks)) (h .one)) (λ z. rw z (omega arith))
+        (longest-or-none (p .tasks))
 
     -- so for what `run` answers and writes, beside what the tool writes
     pub own-answer-chain : OnlyRounds (p .orders) → (store output : List ℕ) → storeSize ≤ length store

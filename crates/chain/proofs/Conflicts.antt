@@ -54,10 +54,6 @@ module _ (a b : Touch) (x y : Access) (p : a ≡ touchOf x) (q : b ≡ touchOf y
 
 -- ---- a search for what fails a test, from the front
 
--- read past the end of the accesses
-abbrev pub noAccess : Access
-noAccess = record { writes = false; address = 0 }
-
 pub fails : (b r : Bool) → r ≡ not b → r ≡ true → b ≡ false
 fails true r e f = clash (cc)
 fails false r e f = refl

@@ -42,15 +42,15 @@ module _ (ts : List Task) where
   Upto Ok None j [] = None
   Upto Ok None j (k ∷ ks) = (k < j) × Ok k × Follow ts k ks
 
-  module _ (Ok : ℕ → Type 0) (None : Type 0) {sums nexts : List ℕ} {j : ℕ} (low : j < length ts) (known : KnownAt ts sums nexts j)
-      {cost next : ℕ} (f : Found ts nexts (Upto Ok None j) cost next) where
+  module _ (Ok : ℕ → Type 0) (None : Type 0) {sums nexts : List ℕ} {j : ℕ} (low : j < length ts) (known : KnownAt ts sums nexts j) where
     abbrev later : Found ts nexts (Follow ts j) (known .rest) (getD nexts j 0)
     later = known .after
 
-    -- task j costs more
-    pub found-more : Ok j → cost < getD sums j 0 → Found ts nexts (Upto Ok None (suc j)) (getD sums j 0) j
+    -- what begins with task j costs more than all that begins with an earlier one
+    pub found-first : ((ys : List ℕ) → Upto Ok None j ys → chainCost ts ys < getD sums j 0) → Ok j
+        → Found ts nexts (Upto Ok None (suc j)) (getD sums j 0) j
     unfolding chainCost
-    found-more ok more =
+    found-first less ok =
         record {
           whole = j ∷ later .whole;
           leads = (refl, low, later .leads);
@@ -62,54 +62,59 @@ module _ (ts : List Task) where
         most [] n = omega arith
         most (k ∷ ks) (l, o, h) =
             ⊎-elim
-            (λ (b : k < j). omega (arith, f .dearest .most (k ∷ ks) (b, o, h), f .sum, known .sum, later .sum))
+            (λ (b : k < j). omega (arith, less (k ∷ ks) (b, o, h), known .sum, later .sum))
             (λ (b : j ≤ k). let e : k ≡ j = omega arith in rw e (omega (arith, later .dearest .most ks (rw e at h))))
             (order k j)
 
         first : (ys : List ℕ) → Upto Ok None (suc j) ys → chainCost ts ys ≡ chainCost ts (j ∷ later .whole)
             → ¬ Before ys (j ∷ later .whole)
-        first [] n e b = omega (arith, known .sum, later .sum)
-        first (k ∷ ks) (l, o, h) e (inl b) = omega (arith, f .dearest .most (k ∷ ks) (b, o, h), f .sum, known .sum, later .sum)
+        first [] n e b = omega (arith, less [] n, known .sum, later .sum)
+        first (k ∷ ks) (l, o, h) e (inl b) = omega (arith, less (k ∷ ks) (b, o, h), known .sum, later .sum)
         first (k ∷ ks) (l, o, h) e (inr (q, b)) = later .dearest .first ks (rw q at h) (omega (arith, rw q at e)) b
 
-    -- or it may not come next, or costs no more
-    pub found-same : (Ok j → getD sums j 0 ≤ cost) → Found ts nexts (Upto Ok None (suc j)) cost next
-    unfolding chainCost
-    found-same no-more =
-        record {
-          whole = f .whole;
-          leads = f .leads;
-          dearest = record { one = still (f .whole) (f .dearest .one); most = most; first = first };
-          sum = f .sum;
-        }
-      where
-        still : (xs : List ℕ) → Upto Ok None j xs → Upto Ok None (suc j) xs
-        still [] n = n
-        still (k ∷ ks) (l, o, h) = (omega arith, o, h)
+    module _ {cost next : ℕ} (f : Found ts nexts (Upto Ok None j) cost next) where
+      -- task j costs more than what is found
+      pub found-more : Ok j → cost < getD sums j 0 → Found ts nexts (Upto Ok None (suc j)) (getD sums j 0) j
+      found-more ok more = found-first (λ ys u. omega (arith, f .dearest .most ys u, f .sum)) ok
 
-        most : (ys : List ℕ) → Upto Ok None (suc j) ys → chainCost ts ys ≤ chainCost ts (f .whole)
-        most [] n = omega arith
-        most (k ∷ ks) (l, o, h) =
-            ⊎-elim
-            (λ (b : k < j). f .dearest .most (k ∷ ks) (b, o, h))
-            (λ (b : j ≤ k).
-            let e : k ≡ j = omega arith in
-            rw e (omega (arith, later .dearest .most ks (rw e at h), no-more (rw e at o), f .sum, known .sum, later .sum)))
-            (order k j)
+      -- or it may not come next, or costs no more
+      pub found-same : (Ok j → getD sums j 0 ≤ cost) → Found ts nexts (Upto Ok None (suc j)) cost next
+      unfolding chainCost
+      found-same no-more =
+          record {
+            whole = f .whole;
+            leads = f .leads;
+            dearest = record { one = still (f .whole) (f .dearest .one); most = most; first = first };
+            sum = f .sum;
+          }
+        where
+          still : (xs : List ℕ) → Upto Ok None j xs → Upto Ok None (suc j) xs
+          still [] n = n
+          still (k ∷ ks) (l, o, h) = (omega arith, o, h)
 
-        -- what begins with task j comes after what begins with an earlier one, and after none
-        behind : (xs ks : List ℕ) → Upto Ok None j xs → ¬ Before (j ∷ ks) xs
-        behind [] ks u b = b
-        behind (x ∷ xs) ks (l, o, h) (inl b) = omega arith
-        behind (x ∷ xs) ks (l, o, h) (inr (e, b)) = omega arith
+          most : (ys : List ℕ) → Upto Ok None (suc j) ys → chainCost ts ys ≤ chainCost ts (f .whole)
+          most [] n = omega arith
+          most (k ∷ ks) (l, o, h) =
+              ⊎-elim
+              (λ (b : k < j). f .dearest .most (k ∷ ks) (b, o, h))
+              (λ (b : j ≤ k).
+              let e : k ≡ j = omega arith in
+              rw e (omega (arith, later .dearest .most ks (rw e at h), no-more (rw e at o), f .sum, known .sum, later .sum)))
+              (order k j)
 
-        first : (ys : List ℕ) → Upto Ok None (suc j) ys → chainCost ts ys ≡ chainCost ts (f .whole) → ¬ Before ys (f .whole)
-        first [] n e = f .dearest .first [] n e
-        first (k ∷ ks) (l, o, h) e =
-            ⊎-elim
-            (λ (b : k < j). f .dearest .first (k ∷ ks) (b, o, h) e)
-            (λ (b : j ≤ k). let q : k ≡ j = omega arith in rw q (behind (f .whole) ks (f .dearest .one)))
-            (order k j)
+          -- what begins with task j comes after what begins with an earlier one, and after none
+          behind : (xs ks : List ℕ) → Upto Ok None j xs → ¬ Before (j ∷ ks) xs
+          behind [] ks u b = b
+          behind (x ∷ xs) ks (l, o, h) (inl b) = omega arith
+          behind (x ∷ xs) ks (l, o, h) (inr (e, b)) = omega arith
+
+          first : (ys : List ℕ) → Upto Ok None (suc j) ys → chainCost ts ys ≡ chainCost ts (f .whole) → ¬ Before ys (f .whole)
+          first [] n e = f .dearest .first [] n e
+          first (k ∷ ks) (l, o, h) e =
+              ⊎-elim
+              (λ (b : k < j). f .dearest .first (k ∷ ks) (b, o, h) e)
+              (λ (b : j ≤ k). let q : k ≡ j = omega arith in rw q (behind (f .whole) ks (f .dearest .one)))
+              (order k j)
 
   -- ---- what may come after task i
 
@@ -146,24 +151,12 @@ module _ (ts : List Task) where
   There k = k < length ts
 
   module _ {sums nexts : List ℕ} where
-    -- those that begin with task 0
+    -- those that begin with task 0: none begins with an earlier one
     pub first-none : 0 < length ts → KnownAt ts sums nexts 0 → Found ts nexts (Upto There ⊥ 1) (getD sums 0 0) 0
-    unfolding chainCost
-    first-none low known =
-        record {
-          whole = 0 ∷ known .after .whole;
-          leads = (refl, low, known .after .leads);
-          dearest = record { one = (omega arith, low, known .after .dearest .one); most = most; first = first };
-          sum = known .sum ∙ ap (λ (n : ℕ). taskAt ts 0 .cost + n) (known .after .sum);
-        }
+    first-none low known = found-first There ⊥ low known none low
       where
-        most : (ys : List ℕ) → Upto There ⊥ 1 ys → chainCost ts ys ≤ chainCost ts (0 ∷ known .after .whole)
-        most (k ∷ ks) (l, o, h) = let z : k ≡ 0 = omega arith in rw z (omega (arith, known .after .dearest .most ks (rw z at h)))
-
-        first : (ys : List ℕ) → Upto There ⊥ 1 ys → chainCost ts ys ≡ chainCost ts (0 ∷ known .after .whole)
-            → ¬ Before ys (0 ∷ known .after .whole)
-        first (k ∷ ks) (l, o, h) e (inl b) = omega arith
-        first (k ∷ ks) (l, o, h) e (inr (q, b)) = known .after .dearest .first ks (rw q at h) (omega (arith, rw q at e)) b
+        none : (ys : List ℕ) → Upto There ⊥ 0 ys → chainCost ts ys < getD sums 0 0
+        none (k ∷ ks) (l, o, h) = absurd (omega arith)
 
   module _ {nexts : List ℕ} where
     pub first-all : {cost next j : ℕ} → length ts ≤ j → Found ts nexts (Upto There ⊥ j) cost next

@@ -3,7 +3,7 @@
 use Prim.Native.Nat.{ℕ, zero, suc, _+_, _≤_, _<_}
 use native.Mathlib.Omega.{arith}
 use mathlib.Core.Path.{_≡_, refl, sym, ap}
-use mathlib.Core.Logic.{_⊎_, inl, inr, ⊎-elim, _≢_}
+use mathlib.Core.Logic.{_⊎_, inl, inr, ⊎-elim, _≢_, _↔_}
 use mathlib.Core.Bool.{Bool, true, false, cond}
 use mathlib.Core.List.{List, [], _∷_, _++_, map, List·Memᴰ, List·Memᴰ·head, List·Memᴰ·tail}
 use lib.ListN.{length, getD}
@@ -134,7 +134,8 @@ module _ (ts : List Task) where
 
   -- ---- in which order
 
-  abbrev Sorted : List (List ℕ) → Type 0
+  -- each before all that follow it
+  abbrev pub Sorted : List (List ℕ) → Type 0
   Sorted [] = Unit {0}
   Sorted (xs ∷ xss) = ((ys : List ℕ) → List·Memᴰ ys xss → Before xs ys) × Sorted xss
 
@@ -227,21 +228,35 @@ module _ (ts : List Task) where
 
   -- ---- the theorem
 
-  pub longest-chain : 0 < length ts → Longest ts (longest ts)
-  unfolding longest
-  longest-chain l =
-      let all = chainsFrom ts 0 (length ts) in
-      let every : 0 + length ts ≡ length ts = omega arith in
-      let known : (xs : List ℕ) → Chain ts xs → List·Memᴰ xs all = λ xs c. all-chains 0 (length ts) every xs (from-start xs c) in
-      record {
-        one = from-chain 0 (longest ts) (only-chains 0 (length ts) every (dearest ts all) (found all (some (known (0 ∷ []) (l, tt)))));
-        most = λ ys c. none-dearer all ys (known ys c);
-        first = λ ys c. none-before all (in-sequence 0 (length ts) every) ys (known ys c);
-      }
+  abbrev everyChain : List (List ℕ)
+  everyChain = chainsFrom ts 0 (length ts)
+
+  all-of-them : 0 + length ts ≡ length ts
+  all-of-them = omega arith
+
+  -- the list that is chosen from has every chain and nothing else, and they stand there in their order
+  pub listed : (xs : List ℕ) → List·Memᴰ xs (chainsFrom ts 0 (length ts)) ↔ Chain ts xs
+  listed xs = (
+    λ m. from-chain 0 xs (only-chains 0 (length ts) all-of-them xs m),
+    λ c. all-chains 0 (length ts) all-of-them xs (from-start xs c),
+  )
     where
       from-start : (xs : List ℕ) → Chain ts xs → From 0 xs
       from-start (x ∷ xs) c = (omega arith, c)
 
+  pub in-order : Sorted (chainsFrom ts 0 (length ts))
+  in-order = in-sequence 0 (length ts) all-of-them
+
+  pub longest-chain : 0 < length ts → Longest ts (longest ts)
+  unfolding longest
+  longest-chain l =
+      let known : (xs : List ℕ) → Chain ts xs → List·Memᴰ xs everyChain = λ xs. listed xs .1 in
+      record {
+        one = listed (longest ts) .0 (found everyChain (some (known (0 ∷ []) (l, tt))));
+        most = λ ys c. none-dearer everyChain ys (known ys c);
+        first = λ ys c. none-before everyChain in-order ys (known ys c);
+      }
+    where
       some : {xss : List (List ℕ)} → List·Memᴰ (0 ∷ []) xss → 0 < length xss
       some (List·Memᴰ·head e) = omega arith
       some (List·Memᴰ·tail m) = omega arith
@@ -257,3 +272,6 @@ module _ (ts : List Task) where
   pub longest-none : length ts ≡ 0 → longest ts ≡ []
   unfolding longest chainsFrom dearest
   longest-none e = rw e refl
+
+  pub longest-or-none : Longest ts (longest ts) ⊎ (longest ts ≡ [])
+  longest-or-none = ⊎-elim (λ l. inl (longest-chain l)) (λ l. inr (longest-none (omega arith))) (order 0 (length ts))

@@ -15,7 +15,7 @@ use Rattle.plan.specs.Reading.{Reading, accepted, refused, reading}
 use Rattle.plan.specs.Accepted.{accepted-well-formed}
 use Rattle.tools.specs.Result.{result, ofPlan}
 use Rattle.chain.specs.Longest.{longest, chainLine, chainOf}
-use Rattle.chain.specs.Ordered.{longest-chain, longest-none}
+use Rattle.chain.specs.Ordered.{longest-or-none}
 
 -- a sum of six digits, and each of the numbers 0 to 127 once, all with the byte after them
 abbrev pub lineSize : ℕ
@@ -77,11 +77,8 @@ module _ (ts : List Task) where
     longest-small : (chainCost ts (longest ts) ≤ 1000 * length ts) × (numbersBytes (longest ts) ≤ below (length ts))
     unfolding chainCost numbersBytes
     longest-small =
-        ⊎-elim
-        (λ (l : 0 < length ts).
-        let c = longest-chain ts l .one in (chain-cheap (longest ts) c, chain-bytes (longest ts) c))
-        (λ (l : length ts ≤ 0). rw (longest-none ts (omega arith)) (omega arith, omega arith))
-        (order 0 (length ts))
+        ⊎-elim (λ h. (chain-cheap (longest ts) (h .one), chain-bytes (longest ts) (h .one))) (λ e. rw e (omega arith, omega arith))
+        (longest-or-none ts)
 
     line-short : length ts ≤ 128 → length (chainLine ts) ≤ lineSize
     unfolding chainLine

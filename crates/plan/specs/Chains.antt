@@ -11,9 +11,12 @@ use lib.Dec.{eqb}
 use Rattle.runs.specs.Every.{every}
 use Rattle.plan.specs.Plan.{Access, Task}
 
--- what stands for a task that is not there
+-- what stands for a task, and for an access, that is not there
 abbrev pub noTask : Task
 noTask = record { label = []; cost = 0; accesses = []; mask = none }
+
+abbrev pub noAccess : Access
+noAccess = record { writes = false; address = 0 }
 
 abbrev pub taskAt : List Task → ℕ → Task
 taskAt ts i = getD ts i noTask

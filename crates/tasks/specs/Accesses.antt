@@ -10,8 +10,8 @@ use Rattle.runs.specs.Sums.{sum}
 use Rattle.runs.specs.Searches.{lastBelow, firstFrom}
 use Rattle.plan.specs.Plan.{Access, Task}
 use Rattle.plan.specs.Line.{repeats}
--- the task of a number
-pub use Rattle.plan.specs.Chains.{noTask, taskAt}
+-- the task of a number, and what stands for a task or an access that is not there
+pub use Rattle.plan.specs.Chains.{noTask, noAccess, taskAt}
 
 unfoldable pub accesses : List Task → List Access
 accesses [] = []
@@ -21,10 +21,6 @@ accesses (t ∷ ts) = t .accesses ++ accesses ts
 unfoldable pub taskOf : List Task → ℕ → ℕ
 taskOf [] a = 0
 taskOf (t ∷ ts) a = elim (ltb a (length (t .accesses))) [ true ↦ 0 | false ↦ suc (taskOf ts (a - length (t .accesses))) ]
-
--- what stands for an access that is not there
-abbrev pub noAccess : Access
-noAccess = record { writes = false; address = 0 }
 
 module _ (ts : List Task) where
   -- the number of accesses

@@ -8,10 +8,10 @@ use lib.ListN.{length, take, getD}
 use borrow.Author.Needs.{needs}
 use Rattle.runs.specs.Every.{every}
 use Rattle.plan.specs.Plan.{Task}
-use Rattle.plan.specs.Chains.{meet, conflict}
+use Rattle.plan.specs.Chains.{noAccess, meet, conflict}
 use Rattle.kept.specs.declared.tasks.Row.{Row}
 use Rattle.kept.specs.Tasks.{rowAt, TaskIn}
-use Rattle.chain.proofs.Conflicts.{noAccess, fails, passes, search-found, search-on, search-none}
+use Rattle.chain.proofs.Conflicts.{fails, passes, search-found, search-on, search-none}
 use Rattle.chain.proofs.conflict.conflict.Statement.{statement}
 use Rattle.chain.proofs.conflict.conflict.Tie as tie
 
