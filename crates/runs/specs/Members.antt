@@ -5,6 +5,7 @@ use mathlib.Core.List.{List, [], ◌∷◌, ◌++◌, Memᴰ}
 
 module _ {A : Type 0} {x : A} where
   pub mem_left : (xs ys : List A) → Memᴰ x xs → Memᴰ x (xs ++ ys)
+  mem_left [] ys x'' = elim x'' [ ]
   mem_left (y ∷ xs) ys (Memᴰ.head e) = Memᴰ.head e
   mem_left (y ∷ xs) ys (Memᴰ.tail k) = Memᴰ.tail (mem_left xs ys k)
 
