@@ -1,5 +1,8 @@
 // The bench: checks a plan text, and runs it. `specs/Answer.antt` says what both answer and what they leave in store and output,
 // `specs/Told.antt` which number and values of the paper a run's answer is.
+
+#![tactic(auto)]
+
 ghost use Rattle.std.specs.Prelude.{◌≡◌, ◌++◌, ◌*◌, ◌≤◌, length, drop, replicate};
 ghost use Rattle.plan.specs.Reading.{reading};
 ghost use Rattle.reader.specs.Verdict.{told as told_check, told_of as told_text};

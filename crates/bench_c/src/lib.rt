@@ -1,4 +1,7 @@
 // The bench for Rust and C callers: its answers in numbers, as `specs/Numbers.antt` says. `include/salfunye.h` declares both functions.
+
+#![tactic(auto)]
+
 ghost use Rattle.std.specs.Prelude.{◌≡◌};
 ghost use Rattle.bench.specs.Answer.{check, run};
 ghost use Rattle.bench_c.specs.Numbers.{checked_numbers, ran_numbers};
@@ -9,7 +12,7 @@ use refusals::number_of;
 
 // The refusal's number, or 0 for a text that is accepted, its line, and the number of looks at bytes of the text.
 #[repr(C)]
-#[derive(Drop)]
+#[derive(Clone, Copy)]
 pub struct CheckedC {
     pub number: u64,
     pub line: u64,
@@ -18,7 +21,7 @@ pub struct CheckedC {
 
 // Number and line of a run; then the picks taken and the report's length, which are 0 in a refusal.
 #[repr(C)]
-#[derive(Drop)]
+#[derive(Clone, Copy)]
 pub struct RanC {
     pub number: u64,
     pub line: u64,

@@ -1,4 +1,7 @@
 // Reads a plan from standard input and prints whether it is accepted, with the number of looks at its bytes, or the line of its refusal.
+
+#![tactic(auto)]
+
 use answer::answer;
 use libc::{STDIN_FILENO, STDOUT_FILENO};
 

@@ -1,4 +1,7 @@
 // Reads a plan from standard input and prints it in the first form, or the line of its refusal.
+
+#![tactic(auto)]
+
 use answer::answer;
 use libc::{STDIN_FILENO, STDOUT_FILENO};
 

@@ -1,4 +1,7 @@
 // The longest chain of a plan: `specs/Longest.antt` says which one that is, and what is written of any text.
+
+#![tactic(auto)]
+
 ghost use Rattle.std.specs.Prelude.{◌≡◌, List, ◌≤◌, length};
 ghost use Rattle.plan.specs.Plan.{Task};
 ghost use Rattle.kept.specs.Layout as lay;

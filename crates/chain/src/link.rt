@@ -9,7 +9,7 @@ use crate::conflict::conflict;
 use kept::tasks::row_at;
 
 // What a chain costs, and its first task, or the number of tasks where there is none.
-#[derive(Drop)]
+#[derive(Clone, Copy)]
 pub(crate) struct Link {
     pub sum: u64,
     pub next: usize,

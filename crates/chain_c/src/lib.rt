@@ -1,5 +1,8 @@
 // The longest chain for Rust and C callers: its answer in numbers, as `specs/Numbers.antt` of the crate tools says. `include/salfunye.h`
 // declares the function.
+
+#![tactic(auto)]
+
 ghost use Rattle.std.specs.Prelude.{◌≡◌};
 ghost use Rattle.tools.specs.Numbers.{numbers};
 ghost use Rattle.tools.specs.Result.{written};

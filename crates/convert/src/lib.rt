@@ -1,4 +1,7 @@
 // Converters between the two forms of a plan: its text with another W line. `specs/Convert.antt` says what both make of any text.
+
+#![tactic(auto)]
+
 ghost use Rattle.std.specs.Prelude.{◌≡◌, ◌++◌, ◌≤◌, length};
 ghost use Rattle.text.specs.Text.{line};
 ghost use Rattle.text.specs.Writing.{fields, Wrote};

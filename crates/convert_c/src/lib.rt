@@ -1,5 +1,8 @@
 // The converters for Rust and C callers: their answers in numbers, as `specs/Numbers.antt` of the crate tools says. `include/salfunye.h`
 // declares both functions.
+
+#![tactic(auto)]
+
 ghost use Rattle.std.specs.Prelude.{◌≡◌};
 ghost use Rattle.tools.specs.Numbers.{numbers};
 ghost use Rattle.tools.specs.Result.{written};

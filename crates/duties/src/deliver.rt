@@ -17,7 +17,7 @@ use memory::share::{add, post, stand, take_mail};
 use memory::tally::Tally;
 
 // What a delivery does at its access: READ and WRITE that now pass on, and 1 where it is satisfied by it.
-#[derive(Drop)]
+#[derive(Clone, Copy)]
 struct Change {
     passed: u64,
     satisfied: u64,

@@ -1,5 +1,7 @@
 // What a worker does with the tasks, in code: `specs/Memory.antt` of the crate `memory` says how the tasks lie in what is lent here.
 
+#![tactic(auto)]
+
 pub mod create; // create.rt: the tasks are created
 mod deliver; // deliver.rt: messages and notices
 pub mod device; // device.rt: dealings with a device

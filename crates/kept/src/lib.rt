@@ -1,4 +1,7 @@
 // What is kept of a plan that is read, in numbers: `specs/Tasks.antt` and `specs/Orders.antt` say which number stands where.
+
+#![tactic(auto)]
+
 ghost use Rattle.std.specs.Prelude.{◌≡◌, set};
 
 pub mod layout; // layout.rt: names of columns and codes

@@ -7,7 +7,7 @@ ghost use Rattle.kept.specs.Orders.{order_at};
 use super::{layout, put};
 
 // An order line.
-#[derive(Drop)]
+#[derive(Clone, Copy)]
 pub struct OrderRow {
     pub code: u64,
     pub seed: u64,

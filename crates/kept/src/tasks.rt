@@ -8,7 +8,7 @@ use super::{layout, put};
 
 // A task's row without its accesses: where its label stands in the text and how long it is, its cost, its mask (0 for none), how many
 // accesses it has.
-#[derive(Drop)]
+#[derive(Clone, Copy)]
 pub struct Row {
     pub place: u64,
     pub size: u64,
@@ -18,7 +18,7 @@ pub struct Row {
 }
 
 // One access to an address: `writes` is 1 for a writer, else 0.
-#[derive(Drop)]
+#[derive(Clone, Copy)]
 pub struct Touch {
     pub writes: u64,
     pub address: u64,

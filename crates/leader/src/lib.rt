@@ -1,4 +1,7 @@
 // Who leads the lock, found when a report is written: by the workers' places in the store, and by what the lock's functions promise.
+
+#![tactic(auto)]
+
 ghost use Rattle.std.specs.Prelude.{◌≡◌, List, ℕ, ◌≤◌, ◌<◌, length};
 ghost use Rattle.runs.specs.Searches.{last_below};
 ghost use Rattle.lock.specs.Arrays.{lock_of};

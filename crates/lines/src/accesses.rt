@@ -18,7 +18,7 @@ const TOO_MANY: usize = 5;
 
 // What is read of a task's accesses: how many, counted up to five, whether an address was out of range, and whether one came again. The
 // first four stand in the task's row.
-#[derive(Drop)]
+#[derive(Clone, Copy)]
 pub struct Accesses {
     pub count: usize,
     pub out: bool,

@@ -1,4 +1,7 @@
 // One line of a plan text: `specs/Lines.antt` says what is answered for its fields, `specs/Accesses.antt` what for a task's accesses.
+
+#![tactic(auto)]
+
 ghost use Rattle.std.specs.Prelude.{◌≡◌};
 ghost use Rattle.lines.specs.Judging.{judged};
 

@@ -44,14 +44,14 @@ const MOST_ROUNDS: u64 = 1000000;
 const MOST_SEEDED: u64 = 1000000;
 
 // What a line is refused with.
-#[derive(Drop)]
+#[derive(Clone, Copy)]
 pub enum Fault {
     Nothing,
     Is(Refusal),
 }
 
 // What a line says besides its fault: nothing where it is not of its form.
-#[derive(Drop)]
+#[derive(Clone, Copy)]
 pub enum Kind {
     Wrong,
     Workers(Form),
@@ -62,7 +62,7 @@ pub enum Kind {
 
 // What the lines so far come to: the workers (0 before the W line) and the form, how many tasks, how many order lines, and whether the last
 // line is a task's, after which alone an M line may stand.
-#[derive(Drop)]
+#[derive(Clone, Copy)]
 pub struct Sofar {
     pub workers: u64,
     pub form: Form,
@@ -74,7 +74,7 @@ pub struct Sofar {
 // A line as it was read: its fault, and the place after it. The numbers are the workers, the mask, or what is kept of an order line. Of a
 // task's line the accesses are still to be read: `more` says whether there is one, and the fault is that of its place and its cost. A line
 // that is not of its form is left at the byte that shows it, without a place: `more` says whether the line goes on there.
-#[derive(Drop)]
+#[derive(Clone, Copy)]
 pub struct Line {
     pub kind: Kind,
     pub first: u64,

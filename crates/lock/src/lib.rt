@@ -1,6 +1,9 @@
 // The delegation ticket lock over lent arrays; `slots` is the ring's size. `specs/Lock.antt` says what the lock is, `specs/Arrays.antt` how
 // it lies in the arrays, `specs/Promise.antt` what a caller may count on. A contract says what the lent arrays and the ends come to, and
 // which operation of the lock that is, whatever lies in the arrays that the function is not lent.
+
+#![tactic(auto)]
+
 ghost use Rattle.std.specs.Prelude.{◌≡◌, List, ℕ, ◌+◌, ◌%◌, ◌^◌, ◌≤◌, ◌<◌, length, set, replicate};
 ghost use Rattle.lock.specs.Lock as L;
 ghost use Rattle.lock.specs.Lock.{EMPTY, join, worker_in};
@@ -8,40 +11,40 @@ ghost use Rattle.lock.specs.Arrays.{lock_of};
 ghost use Rattle.lock.specs.Answers.{seen, waiter, told};
 
 // A ticket and a worker's number: `joined` alone adds the two.
-#[derive(Drop)]
+#[derive(Clone, Copy)]
 pub struct Ticket(pub u64);
 
-#[derive(Drop)]
+#[derive(Clone, Copy)]
 pub struct Worker(pub u64);
 
 // The ticket that is taken next, and the one that the next hand-over lets in.
-#[derive(Drop)]
+#[derive(Clone, Copy)]
 pub struct Ends {
     pub head: Ticket,
     pub tail: Ticket,
 }
 
-#[derive(Drop)]
+#[derive(Clone, Copy)]
 pub struct Taken {
     pub ticket: Ticket,
     pub ends: Ends,
 }
 
-#[derive(Drop)]
+#[derive(Clone, Copy)]
 pub enum Looked {
     NotYet,
     Receives(u64),
     Owns,
 }
 
-#[derive(Drop)]
+#[derive(Clone, Copy)]
 pub enum Front {
     Nobody,
     Waiter(Worker),
 }
 
 // The ends after a hand-over, whom it let in, and whose session did it.
-#[derive(Drop)]
+#[derive(Clone, Copy)]
 pub struct HandedOver {
     pub ends: Ends,
     pub let_in: Front,

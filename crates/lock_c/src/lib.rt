@@ -1,6 +1,9 @@
 // The lock for callers in C and Rust: numbers and slices in, numbers out. Each function takes any arguments. It refuses exactly those
 // that the lock's function of that name does not take, and changes nothing then; on all others it says what that function answers and
 // writes. `Answered F A R` says: where the arguments are such that F, A; where they are not, R.
+
+#![tactic(auto)]
+
 ghost use Rattle.std.specs.Prelude.{◌≡◌, true, false, List, ℕ, ◌+◌, ◌%◌, ◌^◌, ◌≤◌, ◌<◌, length, set, replicate};
 ghost use Rattle.lock.specs.Lock.{join, is_free, look as looks, front, tells};
 ghost use Rattle.lock.specs.Arrays.{lock_of};
@@ -12,7 +15,7 @@ const MOST: u64 = 18446744073709551615;
 
 // `ok` is 1, and 0 in a refusal.
 #[repr(C)]
-#[derive(Drop)]
+#[derive(Clone, Copy)]
 pub struct Ends {
     pub ok: u64,
     pub head: u64,
@@ -20,7 +23,7 @@ pub struct Ends {
 }
 
 #[repr(C)]
-#[derive(Drop)]
+#[derive(Clone, Copy)]
 pub struct Taken {
     pub ok: u64,
     pub ticket: u64,
@@ -30,7 +33,7 @@ pub struct Taken {
 
 // `kind` is 0 in a refusal. `specs/Numbers.antt` has the others.
 #[repr(C)]
-#[derive(Drop)]
+#[derive(Clone, Copy)]
 pub struct Answer {
     pub kind: u64,
     pub value: u64,
@@ -38,7 +41,7 @@ pub struct Answer {
 
 // A hand-over: `kind` and `let_in` tell whom it let in as an `Answer` does, `by` whose session did it.
 #[repr(C)]
-#[derive(Drop)]
+#[derive(Clone, Copy)]
 pub struct Handed {
     pub ok: u64,
     pub head: u64,

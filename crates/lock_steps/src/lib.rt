@@ -1,4 +1,7 @@
 // The steps of a worker at the lock, and of the lock's owner. They rest on what the lock's and the tasks' functions promise.
+
+#![tactic(auto)]
+
 ghost use Rattle.std.specs.Prelude.{◌≡◌, ◌<◌, length, get_or};
 ghost use Rattle.memory.specs.Layout as layout;
 ghost use Rattle.steps.specs.Layout.{share_size, slot_at, LOOKING};

@@ -6,7 +6,7 @@ ghost use Rattle.memory.specs.Labels.{label_at, with_label};
 use super::layout;
 
 // The place of a label's first byte, and how many bytes it has.
-#[derive(Drop)]
+#[derive(Clone, Copy)]
 pub struct Label {
     pub place: u64,
     pub size: u64,

@@ -1,5 +1,7 @@
 // How tasks, accesses and a worker's share lie in numbers. `specs/Memory.antt` says when a memory holds the tasks.
 
+#![tactic(auto)]
+
 pub mod labels; // labels.rt: where the labels stand in the plan's text
 pub mod layout; // layout.rt: the names of what lies where
 pub mod rows; // rows.rt: the rows of tasks and accesses

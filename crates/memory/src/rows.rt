@@ -7,7 +7,7 @@ ghost use Rattle.memory.specs.Rows.{access_number, new_task, new_access, with_ta
 use super::layout;
 
 // What has become of a task: its status as a number, who runs it, and the times of its receipt and its ending.
-#[derive(Drop)]
+#[derive(Clone, Copy)]
 pub struct Outcome {
     pub status: u64,
     pub runner: u64,

@@ -49,7 +49,7 @@ pub fn take_add(own: &mut [u64]) -> u64
 }
 
 // A message in three numbers: where it goes, its flags, and the access that sends it and 1 more, or 0.
-#[derive(Drop)]
+#[derive(Clone, Copy)]
 pub struct Letter {
     pub to: u64,
     pub flags: u64,

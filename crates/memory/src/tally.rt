@@ -7,7 +7,7 @@ ghost use Rattle.memory.specs.Memory.{TaskMemory, memory, HoldsTasks, fresh_tall
 
 // How many tasks there are; whether a task is open in its creation, which, and its next access; how many tasks are not over; how many
 // messages and notices are pending.
-#[derive(Drop)]
+#[derive(Clone, Copy)]
 pub struct Tally {
     pub tasks: u64,
     pub opened: u64,

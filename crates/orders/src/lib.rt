@@ -1,4 +1,7 @@
 // The order lines of an accepted plan, played: their picks are taken one after the other.
+
+#![tactic(auto)]
+
 ghost use Rattle.std.specs.Prelude.{◌≡◌, ◌+◌, ◌^◌, ◌≤◌, ◌<◌, min, drop};
 ghost use Rattle.steps.specs.Layout.{shares_size};
 ghost use Rattle.scheduler.specs.Lent.{memory};

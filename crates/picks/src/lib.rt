@@ -1,4 +1,7 @@
 // The picks of an order line, drawn one at a time: see specs/Sources.antt for what a source gives.
+
+#![tactic(auto)]
+
 ghost use Rattle.std.specs.Prelude.{◌≡◌, ℕ, ◌≤◌, ◌<◌, length};
 ghost use Rattle.plan.specs.Plan.{Order};
 ghost use Rattle.plan.specs.Orders.{picks_of};
@@ -17,14 +20,14 @@ const SEEDED: u64 = 2;
 
 // Picks without end: the same worker, workers in turn, or seeded ones. `worker` is the one, or the next in turn; `state` is the
 // generator's.
-#[derive(Drop)]
+#[derive(Clone, Copy)]
 pub struct Source {
     pub kind: u64,
     pub worker: u64,
     pub state: u64,
 }
 
-#[derive(Drop)]
+#[derive(Clone, Copy)]
 pub struct Drawn {
     pub worker: u64,
     pub source: Source,

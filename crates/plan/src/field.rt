@@ -6,7 +6,7 @@ ghost use Rattle.plan.specs.PassFields.{ReadLabel, ReadAccess, malformed_label, 
 use text::read::{LINE_FEED, Number, TAB, look, read_number};
 
 // A label's field as it was read: its length.
-#[derive(Drop)]
+#[derive(Clone, Copy)]
 pub enum Label {
     Malformed,
     MalformedAtEnd,
@@ -14,7 +14,7 @@ pub enum Label {
 }
 
 // An access's field as it was read: `writes` is 1 for a writer, else 0.
-#[derive(Drop)]
+#[derive(Clone, Copy)]
 pub enum Access {
     Malformed,
     MalformedAtEnd,

@@ -1,5 +1,8 @@
 // A run of an accepted plan: it is laid into arrays, its order lines are played, and its report is written. `specs/Loaded.antt` says how
 // the plan was kept, `specs/Outcome.antt` what its run writes.
+
+#![tactic(auto)]
+
 ghost use Rattle.std.specs.Prelude.{◌≡◌, List, ℕ, ◌^◌, ◌≤◌, ◌<◌, leb, length, get_or, take, drop, replicate};
 ghost use Rattle.std.proofs.Math.Option.{none};
 ghost use Rattle.plan.specs.Plan.{Plan};
@@ -40,7 +43,7 @@ use tables::mask::lay_masks;
 const LONGEST: usize = 14439;
 
 // What a run gives: the picks taken and the report's length, or a refusal and its line, which is 0 if it is not the plan's.
-#[derive(Drop)]
+#[derive(Clone, Copy)]
 pub enum Answer {
     Reports { picks: u64, length: usize },
     Refuses(Refusal, u64),

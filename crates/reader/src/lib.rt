@@ -1,4 +1,7 @@
 // Reads plan texts: see the specs of `plan` for what a text means, and specs/Verdict.antt here for what is answered.
+
+#![tactic(auto)]
+
 ghost use Rattle.std.specs.Prelude.{◌≡◌, ◌≤◌, length};
 ghost use Rattle.plan.specs.Plan.{empty_plan};
 ghost use Rattle.plan.specs.Reading.{reading};
@@ -20,14 +23,14 @@ use refusals::Refusal;
 use text::read::rest_of_line;
 
 // What a text is found to be: a refusal has the line's number, from 1, or 0 if it is not the plan's.
-#[derive(Drop)]
+#[derive(Clone, Copy)]
 pub enum Checked {
     Accepted,
     Refused(Refusal, u64),
 }
 
 // What checking a text gives: the verdict, and the number of looks at bytes of the text.
-#[derive(Drop)]
+#[derive(Clone, Copy)]
 pub struct CheckedText {
     pub checked: Checked,
     pub looks: u64,
@@ -35,7 +38,7 @@ pub struct CheckedText {
 
 // A text as it was read: the looks at its bytes; of an accepted one the plan's workers and its form, and how many tasks and order lines are
 // kept.
-#[derive(Drop)]
+#[derive(Clone, Copy)]
 pub struct ReadPlan {
     pub checked: Checked,
     pub looks: u64,

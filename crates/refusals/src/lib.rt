@@ -1,4 +1,7 @@
 // Refusals: why, the paper's number, and the line that a program prints.
+
+#![tactic(auto)]
+
 ghost use Rattle.std.specs.Prelude.{◌≡◌, ◌+◌, ◌^◌, ◌≤◌, ◌<◌};
 ghost use Rattle.refusals.specs.Number.{number};
 ghost use Rattle.refusals.specs.Line.{refusal_fields};
@@ -8,7 +11,7 @@ use text::number::put_number;
 use text::write::put_field;
 
 // Why a text, a store or an output is refused; `number` in specs/Number.antt gives the paper's number of each.
-#[derive(Drop)]
+#[derive(Clone, Copy)]
 pub enum Refusal {
     // a line without line feed, an unknown first field, a wrong number of fields, a field not of its form
     Malformed,

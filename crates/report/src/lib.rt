@@ -1,4 +1,7 @@
 // Writes the report: see specs/Report.antt for its bytes, and specs/Shown.antt for what the numbers here say of a state.
+
+#![tactic(auto)]
+
 ghost use Rattle.std.specs.Prelude.{◌≡◌, ℕ, ◌+◌, ◌^◌, ◌≤◌, ◌<◌, length, get_or};
 ghost use Rattle.text.specs.Writing.{plain, fields, Wrote};
 ghost use Rattle.machine.specs.State.{Setup, State};
@@ -19,7 +22,7 @@ mod word; // word.rt: the words of its fields
 
 // What the report says besides its tasks: whether the run is finished, picks taken, the total of permitted workers, the lock's ends, the
 // leader; how many tasks.
-#[derive(Drop)]
+#[derive(Clone, Copy)]
 pub struct Summary {
     pub finished: bool,
     pub picks: u64,

@@ -1,4 +1,7 @@
 // The step of a picked worker: `Memory` of the crate steps says how a state of the machine lies in what is lent here.
+
+#![tactic(auto)]
+
 ghost use Rattle.std.specs.Prelude.{◌≡◌, ◌⊎◌, ◌≢◌, List, ℕ, ◌≤◌, ◌<◌, length, get_or, drop};
 ghost use Rattle.memory.specs.Memory.{nothing_left};
 ghost use Rattle.machine.specs.State.{Setup, State, Purpose, draining, picked};

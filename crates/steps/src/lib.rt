@@ -1,4 +1,7 @@
 // The steps of a worker that is out of the lock: `specs/Memory.antt` says how a state of the machine lies in what is lent here.
+
+#![tactic(auto)]
+
 ghost use Rattle.std.specs.Prelude.{◌≡◌, ◌⊎◌, true, ◌+◌, ◌≤◌, ◌<◌, get_or};
 ghost use Rattle.memory.specs.Layout as part;
 ghost use Rattle.memory.specs.Memory.{to_create};
@@ -20,7 +23,7 @@ pub mod station; // station.rt: the device's part of a share
 
 // The lock's ends; the plan's workers, slots and capacity; the slot of the oldest ready task and how many are ready; picks taken; the
 // tasks' numbers.
-#[derive(Drop)]
+#[derive(Clone, Copy)]
 pub struct Counts {
     pub ends: Ends,
     pub workers: u64,

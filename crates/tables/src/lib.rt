@@ -1,4 +1,7 @@
 // Lays the kept tasks of a plan into the rows of a run: the specs of `memory` say which number stands where.
+
+#![tactic(auto)]
+
 ghost use Rattle.std.specs.Prelude.{◌≡◌, length};
 ghost use Rattle.tasks.specs.Accesses.{total};
 ghost use Rattle.kept.specs.Layout as keep;

@@ -7,7 +7,7 @@ ghost use Rattle.text.specs.Fields.{NONE, ReadNumber, Clipped, digit_after, end_
 
 // A number's field as it was read: the place after its end, and whether a tab ended it, so that one more follows. A number of 2^64 or more
 // does not fit, and has the value 2^64 - 1. A malformed one is left at the byte that shows it: the line goes on, or has ended with that byte.
-#[derive(Drop)]
+#[derive(Clone, Copy)]
 pub enum Number {
     Malformed,
     MalformedAtEnd,
@@ -20,7 +20,7 @@ pub enum Number {
 }
 
 // The digits so far.
-#[derive(Drop)]
+#[derive(Clone, Copy)]
 struct Digits {
     value: u64,
     fits: bool,

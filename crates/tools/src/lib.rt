@@ -1,5 +1,8 @@
 // What is common to the tools that make something of a plan: their answer, what their programs print, and the answer in numbers for C.
 // `specs/Result.antt` says what a tool answers and leaves in the output, `specs/Told.antt` which number and values of the paper that is.
+
+#![tactic(auto)]
+
 ghost use Rattle.std.specs.Prelude.{◌≡◌};
 ghost use Rattle.tools.specs.Numbers.{numbers};
 ghost use Rattle.tools.specs.Printing.{Shown};
@@ -7,7 +10,7 @@ ghost use Rattle.tools.specs.Printing.{Shown};
 use refusals::{Refusal, number_of, put_refusal};
 
 // How many bytes the result has that was written; or a refusal with its line.
-#[derive(Drop)]
+#[derive(Clone, Copy)]
 pub enum Answer {
     Writes(usize),
     Refuses(Refusal, u64),
@@ -15,7 +18,7 @@ pub enum Answer {
 
 // The same for C: the refusal's number, or 0 where there is a result, its line, and the length, which is 0 in a refusal.
 #[repr(C)]
-#[derive(Drop)]
+#[derive(Clone, Copy)]
 pub struct AnswerC {
     pub number: u64,
     pub line: u64,
