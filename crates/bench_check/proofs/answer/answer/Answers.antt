@@ -1,0 +1,29 @@
+-- `bench_check::answer::answer` meets its contract: by the verdict. Assumes nothing.
+use mathlib.Core.Path.{sym, ap, ◌∙◌}
+use native.Mathlib.Omega.{arith}
+use Rattle.refusals.specs.Number.{number}
+use Rattle.refusals.specs.Line.{refusal_fields}
+use Rattle.reader.specs.declared.CheckedText.{CheckedText}
+use Rattle.tools.specs.Printing.{line_front}
+use Rattle.bench_check.specs.Checking.{accepted_fields}
+use Rattle.bench_check.proofs.Prints.{accepted_prints, refused_prints}
+use Rattle.bench_check.proofs.answer.answer.Goals as goal
+
+pub returns-in-Accepted : goal.returns-in-Accepted
+returns-in-Accepted c =
+    let text = c.args.text.now in
+    let put = c.put_accepted in
+    let answer = c.check-answer.ensures.answer in
+    let is = sym (ap (λ (r : CheckedText). r.checked) answer) ∙ c.enum_told-1.given.1 in
+    let looks = ap (λ (r : CheckedText). r.looks) answer in
+    rw (← accepted_prints text is, ← looks) (line_front (accepted_fields _) put.ensures.0 (omega (arith, put.ensures.1, c.requires)))
+
+pub returns-in-Refused : goal.returns-in-Refused
+returns-in-Refused c =
+    let text = c.args.text.now in
+    let put = c.put_refusal in
+    let told = c.checked-1.given in
+    let answer = c.check-answer.ensures.answer in
+    let is = sym (ap (λ (r : CheckedText). r.checked) answer) ∙ told.1 in
+    rw (← refused_prints text _ _ is)
+    (line_front (refusal_fields (number told.0.0) told.0.1.0) put.ensures.0 (omega (arith, put.ensures.1, c.requires)))

@@ -1,0 +1,10 @@
+-- `kept::put` meets its contract: a store past the end is none.
+-- Assumes nothing.
+use mathlib.Core.Path.{sym}
+use lib.Seq.{set_out}
+use Rattle.kept.proofs.put.Goals as goal
+
+pub returns-else-at-numbers : goal.returns-else-at-numbers
+returns-else-at-numbers c =
+    let a = c.args in
+    sym (set_out a.numbers.now a.at a.value c.if-at-numbers.false)

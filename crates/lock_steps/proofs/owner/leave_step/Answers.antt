@@ -1,0 +1,22 @@
+-- `owner::leave_step` meets its contract.
+use Rattle.steps.proofs.Acting.{own_long}
+use Rattle.lock_steps.proofs.Stepping.{acting}
+use Rattle.lock_steps.proofs.Owning.{leave_acts}
+use Rattle.lock_steps.proofs.owner.leave_step.Goals as goal
+
+pub go_to-requires : goal.go_to-requires
+go_to-requires c =
+    own_long c.requires.0.1
+
+pub hand_on-requires : goal.hand_on-requires
+hand_on-requires c =
+    let (m, a) = c.requires.0 in
+    (m, _, a)
+
+pub returns : goal.returns
+returns c m =
+    let hand = c.hand_on in
+    let gone = c.go_to in
+    acting gone.new.0 (λ a.
+    leave_acts a hand.result hand.new.1.0 hand.new.1.1.1.1.1.0
+    hand.ensures.0 hand.ensures.1.0 hand.ensures.1.1 c.requires.1 gone.new.0 gone.ensures)

@@ -1,0 +1,11 @@
+-- `receive_to` meets its contract.
+use Rattle.lock_steps.proofs.Places.{received}
+use Rattle.lock_steps.proofs.receive_to.Goals as goal
+
+pub returns : goal.returns
+returns c =
+    let x = c.args in
+    let receive = c.receive in
+    let gone = c.go_to in
+    received x.own.now receive.new.1.0 c.requires.2 x.rows.now receive.new.0 gone.new.0
+    x.task x.w x.time x.place receive.ensures.1 gone.ensures

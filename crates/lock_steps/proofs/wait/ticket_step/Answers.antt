@@ -1,0 +1,23 @@
+-- `wait::ticket_step` meets its contract.
+use Rattle.steps.proofs.Acting.{own_long}
+use Rattle.lock_steps.proofs.FromLock.{head_fits}
+use Rattle.lock_steps.proofs.Stepping.{acting}
+use Rattle.lock_steps.proofs.Waiting.{ticket_acts}
+use Rattle.lock_steps.proofs.wait.ticket_step.Goals as goal
+
+pub take_ticket-taken-requires : goal.take_ticket-taken-requires
+take_ticket-taken-requires c =
+    head_fits c.requires.place_at_value.0.1
+
+pub go_to-requires : goal.go_to-requires
+go_to-requires c =
+    own_long c.requires.place_at_value.0.1
+
+pub returns : goal.returns
+returns c m =
+    let (stand, mails, adds, last) = c.requires.stand_value in
+    let taken = c.take_ticket-taken in
+    let gone = c.go_to in
+    acting gone.new.0 (λ a.
+    rw c.with_ends.ensures
+    (ticket_acts a c.requires.place_at_value.1 stand mails adds last taken.result taken.ensures gone.new.0 gone.ensures))

@@ -1,0 +1,93 @@
+-- `answer_of` meets its contract.
+use Prim.Native.Nat.{◌≤◌}
+use native.Mathlib.Omega.{arith}
+use mathlib.Core.Path.{◌≡◌, sym, ◌∙◌}
+use lib.ListN.{length}
+use borrow.Author.Tests.{leb-true, leb-false}
+use Rattle.text.specs.WritingLaws.{told_length, wrote_whole}
+use Rattle.memory.specs.Layout as layout
+use Rattle.steps.specs.Layout.{GIVERS, MASKS}
+use Rattle.machine.specs.State.{Setup, State}
+use Rattle.report.specs.Report.{report}
+use Rattle.report.specs.Shown.{Shown}
+use Rattle.report.specs.Sizes.{Small}
+use Rattle.report.specs.Totals.{masks_fit}
+use Rattle.play.proofs.Answering.{from, from_long, masks_are, shown, few_tasks, too_short, long_enough}
+use Rattle.play.proofs.answer_of.Goals as goal
+
+-- from the summary back to the beginning, and what the numbers show there
+abbrev begun : goal.After-summary_of-summary → goal.Start
+begun at = at.before.before.before.before.before.before.before.before.before.before.before
+
+asks : (at : goal.After-summary_of-summary)
+    → let args = (begun at).args in
+    let sum = at.summary_of-summary.result in
+    ((length args.rows.now ≡ layout.task_rows) × (length args.labels.now ≡ layout.label_rows)
+    × (layout.most_tasks ≤ length (from GIVERS args.device.now)) × (sum.tasks ≤ layout.most_tasks))
+    × ((d : Setup) × (s : State) × Small d s
+    × Shown d s sum args.rows.now args.labels.now (from GIVERS args.device.now) args.text.now)
+asks at =
+    let sum = at.summary_of-summary in
+    let start = begun at in
+    let args = start.args in
+    let (m, d, s, sized, small, labels, holds) = start.pre.1 in
+    let few = few_tasks args.n args.store.now args.wait.now args.tickets.now args.cells.now args.device.now
+    sum.result sum.ensures m d s args.rows.now args.text.now args.labels.now sized labels holds in
+    let is = shown args.n args.store.now args.wait.now args.tickets.now args.cells.now args.device.now
+    sum.result sum.ensures m d s args.rows.now args.text.now args.labels.now sized labels holds in (
+      (start.pre.0.5, start.pre.0.6, omega (arith, start.pre.0.4, from_long GIVERS args.device.now), few),
+      (d, s, small, is),
+    )
+
+pub summary_of-summary-requires : goal.summary_of-summary-requires
+summary_of-summary-requires c =
+    let device = c.args.device.now in
+    let (_, d, _, sized, _, _, holds) = c.requires.sized in
+    let masks = masks_are d device sized holds.device.masks in
+    let count = holds.tasks.tasks in record {
+      shares_size_in_bounds = (
+        c.requires.shares_size_in_bounds.0,
+        omega (arith, holds.device.workers, sized.workers),
+        omega (arith, holds.device.slots, sized.ring),
+        omega (arith, holds.device.slots, sized.slots, c.requires.shares_size_in_bounds.1),
+        omega (arith, c.requires.shares_size_in_bounds.2),
+        omega (arith, c.requires.shares_size_in_bounds.3),
+      );
+      most_tasks_in_bounds = (
+        omega (arith, c.requires.shares_size_in_bounds.4, from_long MASKS device),
+        omega (arith, count, sized.tasks),
+        λ i l. masks_fit d (from MASKS device) masks i (omega arith),
+      );
+    }
+
+pub has_room-requires : goal.has_room-requires
+has_room-requires c =
+    asks c.before
+
+pub put_report-length-requires : goal.put_report-length-requires
+put_report-length-requires c =
+    let (lengths, (d, s, small, is)) = asks c.before.before.before.before in record { tasks_len = lengths; shown = (d, s, is) }
+
+pub returns-then-has_room : goal.returns-then-has_room
+returns-then-has_room c m d s left sized small labels holds =
+    let sum = c.summary_of-summary in
+    let args = (begun c.before.before.before.before.before.before.before).args in
+    let is = shown args.n args.store.now args.wait.now args.tickets.now args.cells.now args.device.now
+    sum.result sum.ensures m d s args.rows.now args.text.now args.labels.now sized labels holds in
+    let put = c.put_report-length.ensures d s is in
+    let enough : length (report d s) ≤ length args.output.now =
+    leb-true _ _ (sym (c.has_room.ensures d s small is) ∙ c.if-has_room.true) in
+    long_enough args.n args.store.now args.wait.now args.tickets.now args.cells.now args.device.now
+    sum.result sum.ensures m d s args.rows.now args.text.now args.labels.now sized labels holds
+    left args.output.now _ _ enough (told_length put) (wrote_whole put enough)
+
+pub returns : goal.returns
+returns c m d s left sized small labels holds =
+    let sum = c.summary_of-summary in
+    let args = (begun c.before.before.before).args in
+    let is = shown args.n args.store.now args.wait.now args.tickets.now args.cells.now args.device.now
+    sum.result sum.ensures m d s args.rows.now args.text.now args.labels.now sized labels holds in
+    too_short args.n args.store.now args.wait.now args.tickets.now args.cells.now args.device.now
+    sum.result sum.ensures m d s args.rows.now args.text.now args.labels.now sized labels holds
+    left args.output.now
+    (leb-false _ _ (sym (c.has_room.ensures d s small is) ∙ c.if-has_room.false))

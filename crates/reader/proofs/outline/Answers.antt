@@ -1,0 +1,13 @@
+-- `reader::outline` meets its contract: nothing is lent to `read`. Assumes nothing.
+use mathlib.Core.List.{[]}
+use Rattle.plan.specs.Reading.{reading}
+use Rattle.reader.specs.Verdict.{lent}
+use Rattle.reader.proofs.Turns.{gives_outlined}
+use Rattle.reader.proofs.outline.Goals as goal
+
+pub returns : goal.returns
+returns c =
+    let text = c.args.text.now in
+    let read = c.read in
+    let after = lent read.new.1.0 read.new.1.1.0 in
+    gives_outlined text (lent [] []) after read.result (reading text) read.ensures

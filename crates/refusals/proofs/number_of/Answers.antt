@@ -1,0 +1,8 @@
+-- `refusals::number_of` meets its contract: in each arm the number of its refusal, computed. Assumes nothing.
+use mathlib.Core.Path.{◌≡◌, sym, ap}
+use Rattle.refusals.specs.declared.Refusal.{Refusal}
+use Rattle.refusals.specs.Number.{number}
+use Rattle.refusals.proofs.number_of.Goals as goal
+
+of : {refusal known : Refusal} → refusal ≡ known → number known ≡ number refusal
+of e = ap number (sym e)

@@ -1,0 +1,14 @@
+-- `ready::take_out` meets its contract. The loop's invariant: what is left to move up comes to what there was to move.
+use Prim.Native.Nat.{◌≤◌}
+use mathlib.Core.Path.{◌≡◌}
+use lib.ListN.{length}
+use Rattle.runs.specs.Circular.{shifted}
+use Rattle.steps.specs.Layout.{READY}
+use Rattle.steps.proofs.ready.take_out.Given as goal
+
+abbrev pub invariant-loop-i : goal.invariant-loop-i
+invariant-loop-i l =
+    (l.i ≤ l.k) × (length l.device ≡ length l.initial.device) × (shifted READY l.n.ready_at l.device l.i ≡ shifted READY l.n.ready_at l.initial.device l.k)
+
+abbrev pub decreases-loop-i : goal.decreases-loop-i
+decreases-loop-i l = l.i
