@@ -205,6 +205,7 @@ module _ (c : Setup) (playable : Playable c) (ws : List ℕ) (p : Picks c.worker
       → ((i : ℕ) → i < length c.tasks
       → is_ready ((after c ws).tasks.status i) + is_held ((after c ws).tasks.status i) + is_running ((after c ws).tasks.status i) ≡ 0)
       → ((i : ℕ) → i < length c.tasks → (after c ws).tasks.status i ≡ over) × (finished c (after c ws) ≡ true)
+  go (Rattle.tasks.specs.Tasks.linking _ _) e l = elim l [ ]
   nothing_stuck created silent still = go (after c ws).tasks.creation refl created
     where
       go : (x : Creation) → (after c ws).tasks.creation ≡ x → Created c.tasks x

@@ -205,11 +205,14 @@ module _ {E : Type 0} (task_op : E → Option H.Op) where
 
   -- and the pick of a move
   of_pick : (w n : ℕ) (o : Option H.Op) (m : H.Move) → Memᴰ m (moves_by w n o) → (m.by ≡ w) × (m.at ≡ n)
+  of_pick w n none m x' = elim x' [ ]
+  of_pick w n (some op) m (Memᴰ.tail x6) = elim x6 [ ]
   of_pick w n (some op) m (Memᴰ.head e) = rw e (refl, refl)
 
   at_pick : (n : ℕ) (hs : List (Happening E)) (m : H.Move) → Memᴰ m (moves n hs)
       → (k : ℕ) × (k < length (workers_of hs)) × (m.by ≡ pick (workers_of hs) k) × (m.at ≡ suc (k + n))
   unfolding moves
+  at_pick n [] m z = elim z [ ]
   at_pick n (x ∷ hs) m z =
       ⊎_elim
       (λ y. let (k, l, b, a) = at_pick (suc n) hs m y in (suc k, omega arith, b, omega arith))

@@ -33,6 +33,7 @@ receipt_past (can_receive j p q e) i r = rw (← is_equal j i r, e) refl
 
 tallied : (f : Op → ℕ) (m : Move) (ms : List Move) → Memᴰ m ms → f m.op ≤ tally f ms
 unfolding tally
+tallied f m [] x' = elim x' [ ]
 tallied f m (x ∷ ms) (Memᴰ.head e) = rw e (omega arith)
 tallied f m (x ∷ ms) (Memᴰ.tail k) = omega (arith, tallied f m ms k)
 
@@ -93,6 +94,7 @@ module _ {W : ℕ} {ts : List Task} where
 
       pub receipt_by : {ms : List Move} {t : Tasks} {st : ℕ → Stand} → History W ts ms t st
           → (m : Move) → Memᴰ m ms → 0 < is_receipt i m.op → (t.runner i ≡ m.by) × (t.receipt i ≡ m.at)
+      receipt_by still m x9 l = elim x9 [ ]
       receipt_by (then r w h time op can) m (Memᴰ.head e) l = rw e ((noted (change (always r) w h time can i)).received (rw e at l))
       receipt_by (then {ms} r w h time op can) m (Memᴰ.tail k) l =
           let (a, b) = receipt_by r m k l in
@@ -101,6 +103,7 @@ module _ {W : ℕ} {ts : List Task} where
 
       pub ending_by : {ms : List Move} {t : Tasks} {st : ℕ → Stand} → History W ts ms t st
           → (m : Move) → Memᴰ m ms → 0 < is_ending i m.op → (t.runner i ≡ m.by) × (t.ending i ≡ m.at)
+      ending_by still m x9 l = elim x9 [ ]
       ending_by (then r w h time op can) m (Memᴰ.head e) l = rw e ((noted (change (always r) w h time can i)).ended (rw e at l))
       ending_by (then {ms} {now} r w h time op can) m (Memᴰ.tail k) l =
           let (a, b) = ending_by r m k l in

@@ -172,6 +172,7 @@ module _ {W : ℕ} {ts : List Task} (laws : Links ts) (M : ℕ) where
 -- from the last task back, by the conflicts
 pub chain_over : {W : ℕ} {ts : List Task} {t : Tasks} {st : ℕ → Stand} → Inv W ts t st → (i : ℕ) (is : List ℕ) → Chain ts (i ∷ is)
     → t.status (last_of i is) ≡ over → (j : ℕ) → Memᴰ j (i ∷ is) → t.status j ≡ over
+chain_over {W = W} {ts = ts} {t = t} {st = st} v i [] c o j (Memᴰ.tail k) = elim k [ ]
 chain_over v i [] c o j (Memᴰ.head e) = rw e o
 chain_over {W} {ts} {t} {st} v i (n ∷ ns) (l, (a, b, x, f)) o j (Memᴰ.head e) =
     let u = chain_over v n ns (b, f) o n (Memᴰ.head refl) in
