@@ -29,7 +29,7 @@ use Rattle.lock.specs.History.{Owner}
 use Rattle.lock.specs.Promise as Lock
 use Rattle.plan.specs.Chains.{conflict}
 use Rattle.tasks.specs.Accesses.{task_at}
-use Rattle.tasks.specs.Tasks.{ready, held, running, over, Creation, opening, Created, is_ready, is_held, is_running, past_waiting, is_received}
+use Rattle.tasks.specs.Tasks.{linking, ready, held, running, over, Creation, opening, Created, is_ready, is_held, is_running, past_waiting, is_received}
 use Rattle.tasks.specs.Tasks.{is_ended, opened, until_closed, to_add, unsatisfied}
 use Rattle.tasks.specs.History as H
 use Rattle.tasks.specs.Playing as P
@@ -205,11 +205,11 @@ module _ (c : Setup) (playable : Playable c) (ws : List ℕ) (p : Picks c.worker
       → ((i : ℕ) → i < length c.tasks
       → is_ready ((after c ws).tasks.status i) + is_held ((after c ws).tasks.status i) + is_running ((after c ws).tasks.status i) ≡ 0)
       → ((i : ℕ) → i < length c.tasks → (after c ws).tasks.status i ≡ over) × (finished c (after c ws) ≡ true)
-  go (Rattle.tasks.specs.Tasks.linking _ _) e l = elim l [ ]
   nothing_stuck created silent still = go (after c ws).tasks.creation refl created
     where
       go : (x : Creation) → (after c ws).tasks.creation ≡ x → Created c.tasks x
           → ((i : ℕ) → i < length c.tasks → (after c ws).tasks.status i ≡ over) × (finished c (after c ws) ≡ true)
+      go (linking _ _) e l = elim l [ ]
       go (opening n) e l =
           let all = Promise.nothing_stuck (inv_after c playable ws p).tasked n e l (λ w b. (silent w b).0) still in
           (all, P.finished_if c.workers c.tasks (after c ws).tasks (after c ws).stand all silent)

@@ -9,6 +9,6 @@ returns c =
       tickets = refl;
       tasks = refl;
       lock = λ slots wait registrations.
-          fill_lock slots ends.head.0 ends.tail.0 wait registrations c.args.cell-tickets.now c.args.cell-tasks.now
+          fill_lock slots ends.head.0 ends.tail.0 wait registrations c.args.cell_tickets.now c.args.cell_tasks.now
           c.args.worker.0 c.args.task c.requires.0 c.requires.1;
     }

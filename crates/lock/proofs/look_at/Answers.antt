@@ -6,7 +6,7 @@ use Rattle.lock.proofs.look_at.Goals as goal
 pub returns-then-wait-at : goal.returns-then-wait-at
 returns-then-wait-at c slots slot head tail registrations =
     let args = c.args in
-    looks_early slots head tail args.wait.now registrations args.cell-tickets.now args.cell-tasks.now
+    looks_early slots head tail args.wait.now registrations args.cell_tickets.now args.cell_tasks.now
     args.ticket.0
     args.worker.0
     args.at
@@ -17,7 +17,7 @@ returns-then-wait-at c slots slot head tail registrations =
 pub returns-then-cell_tickets-w : goal.returns-then-cell_tickets-w
 returns-then-cell_tickets-w c slots slot head tail registrations =
     let args = c.args in
-    looks_served slots head tail args.wait.now registrations args.cell-tickets.now args.cell-tasks.now
+    looks_served slots head tail args.wait.now registrations args.cell_tickets.now args.cell_tasks.now
     args.ticket.0
     args.worker.0
     args.at
@@ -29,7 +29,7 @@ returns-then-cell_tickets-w c slots slot head tail registrations =
 pub returns-else-cell_tickets-w : goal.returns-else-cell_tickets-w
 returns-else-cell_tickets-w c slots slot head tail registrations =
     let args = c.args in
-    looks_first slots head tail args.wait.now registrations args.cell-tickets.now args.cell-tasks.now
+    looks_first slots head tail args.wait.now registrations args.cell_tickets.now args.cell_tasks.now
     args.ticket.0
     args.worker.0
     args.at

@@ -14,5 +14,5 @@ returns c =
       waits = waits;
       others = (registrations, tickets, tasks);
       lock = rw (waits, registrations, tickets, tasks)
-          (start_lock args.slots args.wait.now args.registrations.now args.cell-tickets.now args.cell-tasks.now);
+          (start_lock args.slots args.wait.now args.registrations.now args.cell_tickets.now args.cell_tasks.now);
     }

@@ -5,7 +5,7 @@ use Rattle.plan.proofs.field.is_label_byte.Goals as goal
 
 pub returns-in-45 : goal.returns-in-45
 returns-in-45 c =
-    byte_hyphen _ c.in-45.keys1
+    byte_hyphen _ c.in-45.is
 
 pub returns-in-48-to-57 : goal.returns-in-48-to-57
 returns-in-48-to-57 c =

@@ -1,22 +1,20 @@
 -- `plan::field::read_access` meets its contract: by the first byte, the number after it being that of `read_number`. Assumes nothing.
-use Rattle.std.proofs.Common.{◌≡◌, ◌+◌, ◌<◌, true, false, length, sym, ◌∙◌, arith}
-use Rattle.text.specs.LineEnds.{NONE, look_within}
+use Rattle.std.proofs.Common.{◌≡◌, ℕ, List, ◌+◌, ◌<◌, true, false, length, get_or, sym, ◌∙◌, arith}
+use Rattle.text.specs.LineEnds.{NONE, after_look, look_within}
 use Rattle.text.specs.FieldLaws.{byte_within}
 use Rattle.plan.proofs.Fields.{access_letter, access_ended, access_other}
 use Rattle.plan.proofs.field.read_access.Goals as goal
 
 -- after the letter
-after-letter : (c : goal.After-look-b) → c.look-b.result < NONE
-    → let a = c.args in (a.at < length a.text.now) × (c.look-b.new.1.1.0 ≡ a.at + 1)
-after-letter c h =
-    let a = c.args in
-    let seen = c.look-b.ensures in
-    let here : a.at < length a.text.now = byte_within a.text.now a.at (rw seen.byte at h) in
-    (here, seen.counted ∙ look_within a.text.now a.at here)
+after_letter : (text : List ℕ) (at : ℕ) → {b looks : ℕ} → b ≡ get_or text at NONE → looks ≡ after_look text at → b < NONE
+    → (at < length text) × (looks ≡ at + 1)
+after_letter text at seen counted h =
+    let here : at < length text = byte_within text at (rw seen at h) in
+    (here, counted ∙ look_within text at here)
 
 pub read_number-requires : goal.read_number-requires
 read_number-requires c =
-    let after = after-letter c.before.before (omega arith) in
+    let after = after_letter c.args.text.now c.args.at c.look-b.ensures.byte c.look-b.ensures.counted (omega arith) in
     (omega (arith, after.0), after.1)
 
 pub returns-then-b-eq-READS : goal.returns-then-b-eq-READS
@@ -26,7 +24,7 @@ returns-then-b-eq-READS c =
 
 pub read_number-requires-then-b-eq-WRITES : goal.read_number-requires-then-b-eq-WRITES
 read_number-requires-then-b-eq-WRITES c =
-    let after = after-letter c.before.before.before (omega arith) in
+    let after = after_letter c.args.text.now c.args.at c.look-b.ensures.byte c.look-b.ensures.counted (omega arith) in
     (omega (arith, after.0), after.1)
 
 pub returns-then-b-eq-WRITES : goal.returns-then-b-eq-WRITES

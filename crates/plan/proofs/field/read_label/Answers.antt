@@ -1,5 +1,4 @@
 use Rattle.std.proofs.Common.{◌≡◌, ◌+◌, ◌-◌, ◌<◌, true, length, get_or, sym, ◌∙◌, arith}
-use borrow.Author.Tests.{not-true, not-false}
 use Rattle.text.specs.LineEnds.{NONE, look_within}
 use Rattle.plan.specs.Line.{is_label_byte}
 use Rattle.plan.proofs.Fields.{label_whole, label_end, label_within, label_on}
@@ -9,7 +8,7 @@ use Rattle.plan.proofs.field.read_label.Goals as goal
 label-byte : (c : goal.Else-not-is_label_byte)
     → is_label_byte (get_or c.args.text.now c.loop-from.at NONE)
     ≡ true
-label-byte c = rw c.look-b.ensures.byte at (sym c.is_label_byte.ensures ∙ not-false _ c.if-not-is_label_byte.false)
+label-byte c = rw c.look-b.ensures.byte at (sym c.is_label_byte.ensures ∙ c.if-not-is_label_byte.false)
 
 in_text : (c : goal.Else-not-is_label_byte)
     → c.loop-from.at < length c.args.text.now
@@ -35,7 +34,7 @@ returns-then-not-is_label_byte c =
     let l = c.loop-from in
     let start = c.args in
     let seen = c.look-b.ensures in
-    let other = sym c.is_label_byte.ensures ∙ not-true _ c.if-not-is_label_byte.true in
+    let other = sym c.is_label_byte.ensures ∙ c.if-not-is_label_byte.true in
     rw seen.counted (l.invariant.3 _ _
     (label_end (l.at - start.from) start.text.now l.at l.invariant.2 (rw seen.byte at other) (rw seen.byte at c.end_label.ensures)))
 

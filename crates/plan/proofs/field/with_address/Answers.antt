@@ -5,4 +5,4 @@ use Rattle.plan.proofs.field.with_address.Goals as goal
 
 pub returns-in-Is : goal.returns-in-Is
 returns-in-Is c =
-    ap (addressed c.args.writes) (sym c.address-1.given.1)
+    ap (addressed c.args.writes) (sym c.in-Is.is)

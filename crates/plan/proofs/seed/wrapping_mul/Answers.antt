@@ -18,4 +18,4 @@ overflow_mul-cross-2 c =
 
 pub returns : goal.returns
 returns c =
-    c.wrapping_add_u64.ensures ∙ by_halves 4294967296 c.args.a c.args.b
+    c.wrapping_add_u64.ensures.value ∙ by_halves 4294967296 c.args.a c.args.b

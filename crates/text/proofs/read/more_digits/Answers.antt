@@ -9,12 +9,6 @@ use Rattle.text.specs.FieldLaws.{byte_within}
 use Rattle.text.proofs.Reading.{held_more, held_clipped, more_end, more_high, more_leading, more_digit}
 use Rattle.text.proofs.read.more_digits.Goals as goal
 
--- a digit stands in the text
-digit-within : (c : goal.After-look-b) → c.look-b.result ≤ 57
-    → c.loop-digits.at < length c.args.text.now
-digit-within c h =
-    byte_within c.args.text.now c.loop-digits.at (omega (arith, c.look-b.ensures.byte))
-
 pub loop-digits-init : goal.loop-digits-init
 loop-digits-init c =
     let first = c.args.first in (
@@ -33,7 +27,7 @@ look-b-requires c =
 
 pub overflow_add-at : goal.overflow_add-at
 overflow_add-at c =
-    omega (arith, digit-within c.before (omega arith))
+    omega (arith, byte_within c.args.text.now c.loop-digits.at (omega (arith, c.look-b.ensures.byte)))
 
 pub returns-then-b-lt-ZERO : goal.returns-then-b-lt-ZERO
 returns-then-b-lt-ZERO c =
@@ -62,11 +56,11 @@ with_digit-digits-requires c =
 
 pub overflow_add-at-in-loop-digits : goal.overflow_add-at-in-loop-digits
 overflow_add-at-in-loop-digits c =
-    omega (arith, digit-within c.before.before.before.before (omega arith))
+    omega (arith, byte_within c.args.text.now c.loop-digits.at (omega (arith, c.look-b.ensures.byte)))
 
 pub loop-digits-smaller : goal.loop-digits-smaller
 loop-digits-smaller c =
-    omega (arith, digit-within c.before.before.before.before (omega arith))
+    omega (arith, byte_within c.args.text.now c.loop-digits.at (omega (arith, c.look-b.ensures.byte)))
 
 pub loop-digits-preserved : goal.loop-digits-preserved
 loop-digits-preserved c =
@@ -75,7 +69,7 @@ loop-digits-preserved c =
     let text = c.args.text.now in
     let seen = c.look-b.ensures in
     let d = get_or text l.at NONE - 48 in
-    let here = digit-within c.before.before.before.before (omega arith) in (
+    let here = byte_within c.args.text.now c.loop-digits.at (omega (arith, c.look-b.ensures.byte)) in (
       n * 10 + d,
       c.with_digit-digits.ensures ∙ rw (l.invariant.1, seen.byte) (held_more n d),
       λ r k so.

@@ -8,15 +8,6 @@ use Rattle.text.specs.FieldLaws.{byte_within}
 use Rattle.text.proofs.Reading.{number_ended, number_low, number_high, number_digit}
 use Rattle.text.proofs.read.read_number.Goals as goal
 
--- the place after the first digit
-after_first : (c : goal.Else-first-gt-NINE) → let a = c.args in
-    (a.at < length a.text.now) × (c.look-first.new.1.1.0 ≡ a.at + 1)
-after_first c =
-    let a = c.args in
-    let seen = c.look-first.ensures in
-    let here : a.at < length a.text.now = byte_within a.text.now a.at (omega (arith, seen.byte)) in
-    (here, seen.counted ∙ look_within a.text.now a.at here)
-
 pub returns-then-first-eq-LINE_FEED : goal.returns-then-first-eq-LINE_FEED
 returns-then-first-eq-LINE_FEED c =
     let a = c.args in
@@ -37,7 +28,10 @@ returns-then-first-gt-NINE c =
 
 pub more_digits-requires : goal.more_digits-requires
 more_digits-requires c =
-    let first = after_first c.before in (omega (arith, first.0), first.1)
+    let a = c.args in
+    let seen = c.look-first.ensures in
+    let here : a.at < length a.text.now = byte_within a.text.now a.at (omega (arith, seen.byte)) in
+    (omega (arith, here), seen.counted ∙ look_within a.text.now a.at here)
 
 pub returns : goal.returns
 returns c =
