@@ -1,5 +1,5 @@
 use native.Mathlib.Omega.{arith}
-use Prim.Native.Nat.{◌*◌, ◌-◌}
+use Prim.Native.Nat.{◌*◌}
 use mathlib.Core.Path.{refl, ap, ◌∙◌}
 use lib.Seq.{sets, take_all}
 use Rattle.kept.specs.Layout as layout
@@ -20,7 +20,7 @@ loop-k-preserved c =
     let a = c.args in
     let put = c.put in (
       omega arith,
-      put.auto.0 ∙ x.invariant.1,
+      put.auto.numbers ∙ x.invariant.1,
       put.ensures
           ∙ stored_more a.rows.now a.row.now x.rows (layout.task_row * a.i) x.k _ (omega arith) (omega arith) x.invariant.2,
     )
