@@ -55,7 +55,7 @@ module _ {c : Setup} {m : Memory} {shares : ℕ → List ℕ} {s : State} {w : �
               capacity = capacity ∙ h.device.capacity;
               stationed = each;
               slotted = each_slot;
-              ready_at = ready_at;
+              ready_at_lem = ready_at;
               ready = ready;
               givers = givers;
               masks = masks;

@@ -59,7 +59,7 @@ module _ {m : Memory} {own : List ℕ} {w : ℕ} (a : Able m own w) (at : get_or
       (rw (station_still own (own_long a) y, ← is_idle) (own_stationed a))
       tt
       (λ v d. refl)
-      a.holds.device.ready_at
+      a.holds.device.ready_at_lem
       a.holds.device.ready
       a.holds.device.givers
       a.holds.device.masks
@@ -112,7 +112,7 @@ module _ {m : Memory} {own : List ℕ} {w : ℕ} (a : Able m own w) (at : get_or
               (rw (station_of z y behind.long, upd_same a.s.queue w (a.s.queue w ++ i ∷ [])) behind)
               tt
               (λ v d. upd_other a.s.queue w (a.s.queue w ++ i ∷ []) v d)
-              a.holds.device.ready_at
+              a.holds.device.ready_at_lem
               a.holds.device.ready
               a.holds.device.givers
               a.holds.device.masks
@@ -133,7 +133,7 @@ module _ {m : Memory} {own : List ℕ} {w : ℕ} (a : Able m own w) (at : get_or
           (rw (station_of z (part own) there.long) there)
           tt
           (λ v d. refl)
-          a.holds.device.ready_at
+          a.holds.device.ready_at_lem
           a.holds.device.ready
           a.holds.device.givers
           a.holds.device.masks

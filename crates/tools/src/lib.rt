@@ -1,5 +1,5 @@
-// What is common to the tools that make something of a plan: their answer, what their programs print, and the answer in numbers for C.
-// `specs/Result.antt` says what a tool answers and leaves in the output, `specs/Told.antt` which number and values of the paper that is.
+// What is common to the tools that make something of a plan: their answer, what their programs read and print, and the answer in numbers for
+// C. `specs/Result.antt` says what a tool answers and leaves in the output, `specs/Told.antt` which number and values of the paper that is.
 
 #![tactic(auto)]
 
@@ -7,6 +7,9 @@ ghost use Rattle.std.specs.Prelude.{◌≡◌};
 ghost use Rattle.tools.specs.Numbers.{numbers};
 ghost use Rattle.tools.specs.Printing.{Shown};
 
+mod input;
+
+pub use input::read_into;
 use refusals::{Refusal, number_of, put_refusal};
 
 // How many bytes the result has that was written; or a refusal with its line.

@@ -4,4 +4,4 @@ use Rattle.lines.proofs.judge.Goals as goal
 
 pub returns-in-Task : goal.returns-in-Task
 returns-in-Task c =
-    c.judge_task.ensures ∙ rw c.enum_told-in-Task-1.given.1
+    c.judge_task.ensures ∙ rw c.in-Task.is

@@ -8,9 +8,8 @@ use Rattle.steps.proofs.Acting.{own_long, tasks_able}
 use Rattle.steps.proofs.Stepping.{create_acts}
 use Rattle.steps.proofs.create_step.Goals as goal
 
--- TODO goal slice-bounds-create-end
-part-create-end : tie.Need-slice-bounds-create-end
-part-create-end c = omega (arith, own_long c.before.before.before.before.before.requires.0.1)
+pub slice_bounds-create-end : goal.slice_bounds-create-end
+slice_bounds-create-end c = omega (arith, own_long c.requires.0.1)
 
 pub create-next-requires : goal.create-next-requires
 create-next-requires c =

@@ -25,4 +25,4 @@ returns c m setup s shares lent long h fit =
     let a : Able (with_counts m x.n) x.own.now x.w =
     record { c = setup; s = s; shares = shares; lent = lent; long = long; holds = h; fit = fit } in
     let (_, at, stand, mail, adds, full) = c.requires in
-    full_acts a at stand mail adds full c.go.new.0 (λ p q k. c.go.ensures.meaning p trying q k refl)
+    full_acts a at stand mail adds full c.go.new.own (λ p q k. c.go.ensures.meaning p trying q k refl)

@@ -7,9 +7,8 @@ use Rattle.steps.proofs.Acting.{own_long, tasks_able}
 use Rattle.steps.proofs.Stepping.{mind_acts}
 use Rattle.steps.proofs.mind_step.Goals as goal
 
--- TODO goal slice-bounds-mind-end
-part-mind-end : tie.Need-slice-bounds-mind-end
-part-mind-end c = omega (arith, own_long c.before.before.before.before.before.before.requires.0.1)
+pub slice_bounds-mind-end : goal.slice_bounds-mind-end
+slice_bounds-mind-end c = omega (arith, own_long c.requires.0.1)
 
 pub mind-next-requires : goal.mind-next-requires
 mind-next-requires c =

@@ -10,7 +10,7 @@ use Rattle.duties.proofs.create.close.Goals as goal
 pub lower-requires : goal.lower-requires
 lower-requires c =
     let ((m, w, a), none, one, last) = c.requires in
-    let own = own_stored a in record { rows_len = (a.long.rows, task_few a (omega (arith, one)), own.long, own.adds-at); adds_count_bound = λ some least. omega (arith, none) }
+    let own = own_stored a in record { rows_len = (a.long.rows, task_few a (omega (arith, one)), own.long, own.adds_at_lem); adds_count_bound = λ some least. omega (arith, none) }
 
 pub overflow_add-r : goal.overflow_add-r
 overflow_add-r c =
@@ -25,5 +25,5 @@ returns c m k w a op is =
     let ends = row_end a n.task below in
     let closed = with_creation a.t (opening (suc n.task)) in
     let lowers = c.lower.ensures a.ts closed w (a.st w) (a.t.mail w) in
-    let (kept, new) = lowers below a.holds.task-rows (own_stored a) in
+    let (kept, new) = lowers below a.holds.task_rows_lem (own_stored a) in
     closes_holds a n.task n.access (to_link a (omega (arith, one))) (omega (arith, last, ends)) _ _ kept new k op is

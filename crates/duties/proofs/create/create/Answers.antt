@@ -8,12 +8,6 @@ use Rattle.memory.specs.Memory.{memory, end_of}
 use Rattle.duties.proofs.Creating.{to_create_here, one_opened, task_few, end_few}
 use Rattle.duties.proofs.create.create.Goals as goal
 
--- where a task is open
-facts : (s : goal.Start) → 0 < s.args.n.opened
-    → (s.args.n.task < layout.most_tasks) × (length s.args.rows.now ≡ layout.task_rows)
-    × (end_of s.args.n s.args.rows.now ≤ layout.most_accesses)
-facts s z = let ((w, a), adds, mail, more) = s.requires in (task_few a z, a.long.rows, end_few a z)
-
 pub open-requires : goal.open-requires
 open-requires c =
     let ((w, a), adds, mail, more) = c.requires in
@@ -27,36 +21,36 @@ returns-then-n-eq0 c k w =
     c.args.own.now k w
 
 pub overflow_mul-row : goal.overflow_mul-row
-overflow_mul-row c =
-    omega (arith, facts c.before.before.before.before.before (omega (arith, c.if-n-eq0)))
+overflow_mul-row c = let ((w, a), adds, mail, more) = c.requires in
+    omega (arith, task_few a (omega (arith, c.if-n-eq0)), a.long.rows, end_few a (omega (arith, c.if-n-eq0)))
 
 pub overflow_add-row : goal.overflow_add-row
-overflow_add-row c =
-    omega (arith, facts c.before.before.before.before.before (omega (arith, c.if-n-eq0)))
+overflow_add-row c = let ((w, a), adds, mail, more) = c.requires in
+    omega (arith, task_few a (omega (arith, c.if-n-eq0)), a.long.rows, end_few a (omega (arith, c.if-n-eq0)))
 
 pub offset_bounds-rows-row : goal.offset_bounds-rows-row
-offset_bounds-rows-row c =
-    omega (arith, facts c.before.before.before.before.before (omega (arith, c.if-n-eq0)))
+offset_bounds-rows-row c = let ((w, a), adds, mail, more) = c.requires in
+    omega (arith, task_few a (omega (arith, c.if-n-eq0)), a.long.rows, end_few a (omega (arith, c.if-n-eq0)))
 
 pub bounds-rows-row : goal.bounds-rows-row
-bounds-rows-row c =
-    omega (arith, facts c.before.before.before.before.before.before (omega (arith, c.if-n-eq0)))
+bounds-rows-row c = let ((w, a), adds, mail, more) = c.requires in
+    omega (arith, task_few a (omega (arith, c.if-n-eq0)), a.long.rows, end_few a (omega (arith, c.if-n-eq0)))
 
 pub overflow_add-row-2 : goal.overflow_add-row-2
-overflow_add-row-2 c =
-    omega (arith, facts c.before.before.before.before.before.before (omega (arith, c.if-n-eq0)))
+overflow_add-row-2 c = let ((w, a), adds, mail, more) = c.requires in
+    omega (arith, task_few a (omega (arith, c.if-n-eq0)), a.long.rows, end_few a (omega (arith, c.if-n-eq0)))
 
 pub offset_bounds-rows-row-2 : goal.offset_bounds-rows-row-2
-offset_bounds-rows-row-2 c =
-    omega (arith, facts c.before.before.before.before.before.before (omega (arith, c.if-n-eq0)))
+offset_bounds-rows-row-2 c = let ((w, a), adds, mail, more) = c.requires in
+    omega (arith, task_few a (omega (arith, c.if-n-eq0)), a.long.rows, end_few a (omega (arith, c.if-n-eq0)))
 
 pub bounds-rows-row-2 : goal.bounds-rows-row-2
-bounds-rows-row-2 c =
-    omega (arith, facts c.before.before.before.before.before.before.before (omega (arith, c.if-n-eq0)))
+bounds-rows-row-2 c = let ((w, a), adds, mail, more) = c.requires in
+    omega (arith, task_few a (omega (arith, c.if-n-eq0)), a.long.rows, end_few a (omega (arith, c.if-n-eq0)))
 
 pub overflow_add-rows : goal.overflow_add-rows
-overflow_add-rows c =
-    omega (arith, facts c.before.before.before.before.before.before.before (omega (arith, c.if-n-eq0)))
+overflow_add-rows c = let ((w, a), adds, mail, more) = c.requires in
+    omega (arith, task_few a (omega (arith, c.if-n-eq0)), a.long.rows, end_few a (omega (arith, c.if-n-eq0)))
 
 pub link-requires : goal.link-requires
 link-requires c =

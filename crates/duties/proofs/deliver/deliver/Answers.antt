@@ -60,8 +60,9 @@ bounds-accesses-row-2 c =
 
 pub lower-requires : goal.lower-requires
 lower-requires c =
-    lower_fits c.requires.0.1 c.requires.1 c.requires.2 c.take_mail-mail.ensures.meaning c.set_flags-change.ensures.rows
-    c.set_flags-change.ensures.change c.pass_on-posted.ensures c.give_notice-noticed.ensures
+    let fits = lower_fits c.requires.0.1 c.requires.1 c.requires.2 c.take_mail-mail.ensures.meaning c.set_flags-change.ensures.rows
+    c.set_flags-change.ensures.change c.pass_on-posted.ensures c.give_notice-noticed.ensures in
+    record { rows_len = fits.0; adds_count_bound = fits.1 }
 
 pub overflow_sub-r : goal.overflow_sub-r
 overflow_sub-r c =

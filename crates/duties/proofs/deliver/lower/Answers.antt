@@ -38,7 +38,7 @@ returns c ts s w p mail within h k =
     let least = c.if-by-count.false in
     let some : 0 < count = omega (arith, c.if-count-eq0.false) in (
       rows_out ts a.rows.now s w a.task a.by c.requires.rows_len.0 c.requires.rows_len.1 within h some least,
-      adds_out ts a.rows.now s w a.task a.by c.requires.rows_len.0 c.requires.rows_len.1 within h c.add.new.0 p
+      adds_out ts a.rows.now s w a.task a.by c.requires.rows_len.0 c.requires.rows_len.1 within h c.add.new.own p
           mail some least
           (c.add.ensures.meaning p mail (s.adds w) k),
     )

@@ -29,8 +29,8 @@ returns c =
     let x = c.args in
     let i = x.task in
     let w = x.w in
-    let (numbers, meaning) = c.stand.ensures in record {
-      numbers = (refl, rw (received_cost x.rows.now i w x.time) at numbers);
+    let meaning = c.stand.ensures.meaning in record {
+      numbers = (refl, rw (received_cost x.rows.now i w x.time) at c.stand.ensures.numbers);
       meaning = λ m.
           let stood : (a : Able (memory m.tally x.rows.now m.accesses) x.own.now w) → i < length a.ts
           → Stored _ (working i (task_at a.ts i).cost) (a.t.mail w) (a.t.adds w) =

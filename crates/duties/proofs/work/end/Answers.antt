@@ -9,80 +9,77 @@ use Rattle.duties.proofs.Working.{at_work, ended_first, ended_count, ends_holds,
 use Rattle.memory.proofs.share.stand.Reads as stand-reads
 use Rattle.duties.proofs.work.end.Goals as goal
 
-facts : (s : goal.Start) → Ending s.args.n s.args.time s.args.rows.now s.args.own.now
-facts s = let ((m, w, a), at, none) = s.requires in ending s.args.time a at
-
 pub bounds-own-1 : goal.bounds-own-1
-bounds-own-1 c =
-    omega (arith, facts c.before.before.before)
+bounds-own-1 c = let ((m, w, a), at, none) = c.requires in
+    omega (arith, ending c.args.time a at)
 
 pub overflow_mul-row : goal.overflow_mul-row
-overflow_mul-row c =
-    omega (arith, facts c.before.before.before)
+overflow_mul-row c = let ((m, w, a), at, none) = c.requires in
+    omega (arith, ending c.args.time a at)
 
 pub overflow_add-rows : goal.overflow_add-rows
-overflow_add-rows c =
-    omega (arith, facts c.before.before.before)
+overflow_add-rows c = let ((m, w, a), at, none) = c.requires in
+    omega (arith, ending c.args.time a at)
 
 pub offset_bounds-rows-row : goal.offset_bounds-rows-row
-offset_bounds-rows-row c =
-    omega (arith, facts c.before.before.before)
+offset_bounds-rows-row c = let ((m, w, a), at, none) = c.requires in
+    omega (arith, ending c.args.time a at)
 
 pub bounds-rows-row : goal.bounds-rows-row
-bounds-rows-row c =
-    omega (arith, facts c.before.before.before)
+bounds-rows-row c = let ((m, w, a), at, none) = c.requires in
+    omega (arith, ending c.args.time a at)
 
 pub overflow_add-rows-2 : goal.overflow_add-rows-2
-overflow_add-rows-2 c =
-    omega (arith, facts c.before.before.before)
+overflow_add-rows-2 c = let ((m, w, a), at, none) = c.requires in
+    omega (arith, ending c.args.time a at)
 
 pub offset_bounds-rows-row-2 : goal.offset_bounds-rows-row-2
-offset_bounds-rows-row-2 c =
-    omega (arith, facts c.before.before.before)
+offset_bounds-rows-row-2 c = let ((m, w, a), at, none) = c.requires in
+    omega (arith, ending c.args.time a at)
 
 pub bounds-rows-row-2 : goal.bounds-rows-row-2
-bounds-rows-row-2 c =
-    simp length-set (omega (arith, facts c.before.before.before))
+bounds-rows-row-2 c = let ((m, w, a), at, none) = c.requires in
+    simp length-set (omega (arith, ending c.args.time a at))
 
 pub overflow_add-count : goal.overflow_add-count
-overflow_add-count c =
-    omega (arith, facts c.before.before.before)
+overflow_add-count c = let ((m, w, a), at, none) = c.requires in
+    omega (arith, ending c.args.time a at)
 
 pub offset_bounds-rows-row-3 : goal.offset_bounds-rows-row-3
-offset_bounds-rows-row-3 c =
-    omega (arith, facts c.before.before.before)
+offset_bounds-rows-row-3 c = let ((m, w, a), at, none) = c.requires in
+    omega (arith, ending c.args.time a at)
 
 pub bounds-rows-row-3 : goal.bounds-rows-row-3
-bounds-rows-row-3 c =
-    simp length-set (omega (arith, facts c.before.before.before.before))
+bounds-rows-row-3 c = let ((m, w, a), at, none) = c.requires in
+    simp length-set (omega (arith, ending c.args.time a at))
 
 pub overflow_add-row : goal.overflow_add-row
-overflow_add-row c =
-    omega (arith, facts c.before.before.before.before.before)
+overflow_add-row c = let ((m, w, a), at, none) = c.requires in
+    omega (arith, ending c.args.time a at)
 
 pub offset_bounds-rows-row-4 : goal.offset_bounds-rows-row-4
-offset_bounds-rows-row-4 c =
-    omega (arith, facts c.before.before.before.before.before)
+offset_bounds-rows-row-4 c = let ((m, w, a), at, none) = c.requires in
+    omega (arith, ending c.args.time a at)
 
 pub bounds-rows-row-4 : goal.bounds-rows-row-4
-bounds-rows-row-4 c =
-    simp length-set (omega (arith, facts c.before.before.before.before.before.before))
+bounds-rows-row-4 c = let ((m, w, a), at, none) = c.requires in
+    simp length-set (omega (arith, ending c.args.time a at))
 
 pub post_done-requires : goal.post_done-requires
-post_done-requires c =
-    let f = facts c.before.before.before.before.before.before in record { by_index = f.stored; count_bound = (f.room, f.within) }
+post_done-requires c = let ((m, w, a), at, none) = c.requires in
+    let f = (ending c.args.time a at) in record { by_index = f.stored; count_bound = (f.room, f.within) }
 
 pub stand-requires : goal.stand-requires
-stand-requires c =
-    omega (arith, facts c.before.before.before.before.before.before.before.before.before.before)
+stand-requires c = let ((m, w, a), at, none) = c.requires in
+    omega (arith, ending c.args.time a at)
 
 pub overflow_sub-r : goal.overflow_sub-r
-overflow_sub-r c =
-    omega (arith, facts c.before.before.before.before.before.before.before.before.before.before.before.before.before.before)
+overflow_sub-r c = let ((m, w, a), at, none) = c.requires in
+    omega (arith, ending c.args.time a at)
 
 pub overflow_add-r : goal.overflow_add-r
-overflow_add-r c =
-    omega (arith, facts c.before.before.before.before.before.before.before.before.before.before.before.before.before.before.before)
+overflow_add-r c = let ((m, w, a), at, none) = c.requires in
+    omega (arith, ending c.args.time a at)
 
 pub returns : goal.returns
 returns c m w a op is =

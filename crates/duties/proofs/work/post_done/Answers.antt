@@ -20,7 +20,7 @@ post-requires c =
     let (p, mail, adds, h) = c.requires.by_index in
     let now = l.invariant.1 p mail adds h in (
       now.long,
-      now.mail-at,
+      now.mail_at_lem,
       omega (
         arith,
         c.requires.count_bound,

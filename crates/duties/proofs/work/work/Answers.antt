@@ -10,16 +10,13 @@ use Rattle.duties.proofs.Held.{own_stored}
 use Rattle.duties.proofs.Working.{at_work, works_holds}
 use Rattle.duties.proofs.work.work.Goals as goal
 
-facts : (s : goal.Start) → length s.args.own.now ≡ layout.part
-facts s = let ((m, w, a), at) = s.requires in (own_stored a).long
-
 pub bounds-own-2 : goal.bounds-own-2
-bounds-own-2 c =
-    omega (arith, facts c.before.before.before)
+bounds-own-2 c = let ((m, w, a), at) = c.requires in
+    omega (arith, (own_stored a).long)
 
 pub bounds-own-2-2 : goal.bounds-own-2-2
-bounds-own-2-2 c =
-    omega (arith, facts c.before.before.before.before)
+bounds-own-2-2 c = let ((m, w, a), at) = c.requires in
+    omega (arith, (own_stored a).long)
 
 pub returns : goal.returns
 returns c m w a op is =

@@ -1,22 +1,19 @@
-use Prim.Native.Nat.{ℕ, ◌-◌, ◌≤◌}
+use Prim.Native.Nat.{◌≤◌}
 use mathlib.Core.Path.{refl, sym, ap, ◌∙◌}
-use mathlib.Core.Bool.{Bool, true, false, not}
+use mathlib.Core.Bool.{false, not}
 use native.Mathlib.Omega.{arith}
 use borrow.Author.Tests.{eq-eqb, ne_eqb}
-use lib.Dec.{eqb}
 use lib.ListN.{length}
 use lib.Seq.{take_all, take-length}
 use Rattle.runs.specs.Every.{every, every_more, every_fails}
 use Rattle.plan.specs.Plan.{Access}
 use Rattle.plan.specs.Line.{access}
 use Rattle.lines.proofs.Touches.{address_at}
+use Rattle.lines.proofs.accesses.is_touched.Invariants.{other}
 use Rattle.lines.proofs.accesses.is_touched.Goals as goal
 
 nowhere : Access
 nowhere = access false 0
-
-abbrev other : ℕ → Access → Bool
-other address a = not (eqb a.address address)
 
 pub loop-k-init : goal.loop-k-init
 unfolding every

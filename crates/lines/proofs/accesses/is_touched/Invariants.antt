@@ -1,14 +1,18 @@
 -- `lines::accesses::is_touched` meets its contract: no access before k is to the address. Assumes nothing.
-use Prim.Native.Nat.{◌-◌, ◌≤◌}
+use Prim.Native.Nat.{ℕ, ◌-◌, ◌≤◌}
 use mathlib.Core.Path.{◌≡◌}
-use mathlib.Core.Bool.{true}
+use mathlib.Core.Bool.{Bool, true, not}
 use mathlib.Core.List.{List}
+use lib.Dec.{eqb}
 use lib.ListN.{length, take}
 use Rattle.runs.specs.Every.{every}
 use Rattle.plan.specs.Plan.{Access}
 use Rattle.kept.specs.Tasks.{Placed, row_of}
 use Rattle.lines.specs.Accesses.{with_accesses}
 use Rattle.lines.proofs.accesses.is_touched.Given as goal
+
+abbrev pub other : ℕ → Access → Bool
+other address a = not (eqb a.address address)
 
 abbrev pub invariant-loop-k : goal.invariant-loop-k
 invariant-loop-k l =

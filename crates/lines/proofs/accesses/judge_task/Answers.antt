@@ -5,12 +5,12 @@ use Rattle.lines.proofs.accesses.judge_task.Goals as goal
 
 pub returns-then-a : goal.returns-then-a
 returns-then-a c =
-    simp (c.enum_told-in_default-1.given.1, c.if-a.true)
+    simp (c.in_default.is, c.if-a.true)
 
 pub returns-then-n-ge-MOST_TASKS : goal.returns-then-n-ge-MOST_TASKS
 returns-then-n-ge-MOST_TASKS c =
     simp (
-      c.enum_told-in_default-1.given.1,
+      c.in_default.is,
       c.if-a.false,
       le-leb 128 c.args.n (omega arith),
     )
@@ -18,7 +18,7 @@ returns-then-n-ge-MOST_TASKS c =
 pub returns-then-a-gt-MOST_TASK_ACCESSES : goal.returns-then-a-gt-MOST_TASK_ACCESSES
 returns-then-a-gt-MOST_TASK_ACCESSES c =
     simp (
-      c.enum_told-in_default-1.given.1,
+      c.in_default.is,
       c.if-a.false,
       lt-leb 128 c.args.n (omega arith),
       lt-ltb 4 c.args.a.count (omega arith),
@@ -27,7 +27,7 @@ returns-then-a-gt-MOST_TASK_ACCESSES c =
 pub returns-then-a-2 : goal.returns-then-a-2
 returns-then-a-2 c =
     simp (
-      c.enum_told-in_default-1.given.1,
+      c.in_default.is,
       c.if-a.false,
       lt-leb 128 c.args.n (omega arith),
       le-ltb 4 c.args.a.count (omega arith),
@@ -37,7 +37,7 @@ returns-then-a-2 c =
 pub returns : goal.returns
 returns c =
     simp (
-      c.enum_told-in_default-1.given.1,
+      c.in_default.is,
       c.if-a.false,
       lt-leb 128 c.args.n (omega arith),
       le-ltb 4 c.args.a.count (omega arith),

@@ -10,7 +10,7 @@ use Rattle.lines.proofs.line.count_line.Goals as goal
 pub returns-then-more : goal.returns-then-more
 returns-then-more c =
     let read = c.read_number in
-    let is = c.n-1.given.1 in
+    let is = c.in-Is.is in
     let t = first_told c.requires.0 read.ensures is
     c.if-more.true in
     λ p in_range order at_start_here before coded.
@@ -23,7 +23,7 @@ order_line-requires c e =
       omega (
         arith,
         c.requires.1,
-        bounded 1 c.args.most c.n-1.given.0.0 far.ensures
+        bounded 1 c.args.most c.in-Is.n far.ensures
             (or_right c.args.out far.result in_range_lem),
       ),
       c.requires.2 (or_left c.args.out far.result in_range_lem),
@@ -33,19 +33,19 @@ pub returns-in-Malformed : goal.returns-in-Malformed
 returns-in-Malformed c =
     λ p in_range order at_start_here before coded.
     one_untold c.requires.0 p (count_line p in_range c.args.most order) true c.wrong.ensures _
-    c.read_number.ensures c.enum_told-1.given.1
+    c.read_number.ensures c.in-Malformed.is
 
 pub returns-in-MalformedAtEnd : goal.returns-in-MalformedAtEnd
 returns-in-MalformedAtEnd c =
     λ p in_range order at_start_here before coded.
     one_untold c.requires.0 p (count_line p in_range c.args.most order) false c.wrong-in-MalformedAtEnd.ensures _
-    c.read_number.ensures c.enum_told-in-MalformedAtEnd-1.given.1
+    c.read_number.ensures c.in-MalformedAtEnd.is
 
 pub returns-else-more : goal.returns-else-more
 returns-else-more c =
     let read = c.read_number in
-    let told = c.n-1.given in
-    let t = first_told c.requires.0 read.ensures told.1
+    let told = c.in-Is in
+    let t = first_told c.requires.0 read.ensures told.is
     c.if-more.false in
     let a = c.args in
     let far = c.outside in
@@ -53,5 +53,5 @@ returns-else-more c =
     let line = c.order_line.ensures in
     λ p in_range order at_start_here before coded.
     one_formed (count_line p in_range a.most order) t
-    (count_judged p a.misplaced at_start_here told.0.1.1.0 in_range a.most order t.number told.0.0 a.who a.out
+    (count_judged p a.misplaced at_start_here told.next in_range a.most order t.number told.n a.who a.out
     far.result out.result c.requires.1 t.held before far.ensures out.ensures coded line)

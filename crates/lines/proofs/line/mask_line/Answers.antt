@@ -8,26 +8,26 @@ use Rattle.lines.proofs.line.mask_line.Goals as goal
 
 pub returns-then-more : goal.returns-then-more
 returns-then-more c =
-    let t = first_told c.requires.0 c.read_number.ensures c.mask-1.given.1 c.if-more.true in
+    let t = first_told c.requires.0 c.read_number.ensures c.in-Is.is c.if-more.true in
     λ p sums. one_goes_on c.requires.0 p (mask_line p) c.wrong-then-more.ensures t
 
 pub returns-in-Malformed : goal.returns-in-Malformed
 returns-in-Malformed c =
     λ p sums.
     one_untold c.requires.0 p (mask_line p) true c.wrong.ensures _ c.read_number.ensures
-    c.enum_told-1.given.1
+    c.in-Malformed.is
 
 pub returns-in-MalformedAtEnd : goal.returns-in-MalformedAtEnd
 returns-in-MalformedAtEnd c =
     λ p sums.
     one_untold c.requires.0 p (mask_line p) false c.wrong-in-MalformedAtEnd.ensures _ c.read_number.ensures
-    c.enum_told-in-MalformedAtEnd-1.given.1
+    c.in-MalformedAtEnd.is
 
 pub returns-else-more : goal.returns-else-more
 returns-else-more c =
-    let told = c.mask-1.given in
-    let t = first_told c.requires.0 c.read_number.ensures told.1 c.if-more.false in
+    let told = c.in-Is in
+    let t = first_told c.requires.0 c.read_number.ensures told.is c.if-more.false in
     λ p sums.
     one_formed (mask_line p) t
-    (mask_judged t.number told.0.0 t.held p (omega (arith, c.requires.1, sums.workers)) told.0.1.1.0
+    (mask_judged t.number told.mask t.held p (omega (arith, c.requires.1, sums.workers)) told.next
     c.mask_fault.result (c.mask_fault.ensures p t.number sums.workers t.held (ap not sums.after)))

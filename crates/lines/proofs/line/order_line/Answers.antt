@@ -11,17 +11,17 @@ returns-in-Is c =
       after = refl;
       ended = refl;
       judged = c.first_fault-fault.ensures;
-      tells = some_fault _ _ _ c.enum_told-1.given.1 c.first_fault-fault.ensures;
+      tells = some_fault _ _ _ c.in-Is.is c.first_fault-fault.ensures;
     }
 
 pub overflow_mul-result : goal.overflow_mul-result
 overflow_mul-result c =
     let fault = c.first_fault-fault in
-    let in_range_lem = no_fault c.args.misplaced c.args.out fault.result fault.ensures c.enum_told-in_default-1.given.1 in
+    let in_range_lem = no_fault c.args.misplaced c.args.out fault.result fault.ensures c.in_default.is in
     omega (arith, c.requires in_range_lem)
 
 pub overflow_add-result : goal.overflow_add-result
 overflow_add-result c =
     let fault = c.first_fault-fault in
-    let in_range_lem = no_fault c.args.misplaced c.args.out fault.result fault.ensures c.enum_told-in_default-1.given.1 in
+    let in_range_lem = no_fault c.args.misplaced c.args.out fault.result fault.ensures c.in_default.is in
     omega (arith, c.requires in_range_lem)

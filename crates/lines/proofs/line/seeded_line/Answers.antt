@@ -2,7 +2,6 @@
 use mathlib.Core.Path.{ap}
 use mathlib.Core.Bool.{true, false, not}
 use native.Mathlib.Omega.{arith}
-use borrow.Author.Tests.{not-true, not-false}
 use Rattle.text.specs.Fields.{fits_in}
 use Rattle.plan.specs.Plan.{seeded}
 use Rattle.plan.specs.Line.{seeded_line}
@@ -13,39 +12,39 @@ use Rattle.lines.proofs.line.seeded_line.Goals as goal
 pub returns-then-not-more : goal.returns-then-not-more
 returns-then-not-more c =
     let read = c.read_number in
-    let is = c.seed-1.given.1 in
+    let is = c.in-Is.is in
     let t = first_told c.requires.0 read.ensures is
-    (not-true _ c.if-not-more.true) in
+    c.if-not-more.true in
     λ p sums. two_ends c.requires.0 p (seeded_line p) c.wrong-then-not-more.ensures t
 
 pub count_line-requires : goal.count_line-requires
 count_line-requires c =
     let read = c.read_number in
-    let is = c.seed-1.given.1 in
+    let is = c.in-Is.is in
     let t = first_told c.requires.0 read.ensures is
-    (not-false _ c.if-not-more.false) in
+    c.if-not-more.false in
     (t.fields.within, omega arith, λ e. omega arith, t.looked)
 
 pub returns-in-Malformed : goal.returns-in-Malformed
 returns-in-Malformed c =
     λ p sums.
     two_untold c.requires.0 p (seeded_line p) true c.wrong.ensures _ c.read_number.ensures
-    c.enum_told-1.given.1
+    c.in-Malformed.is
 
 pub returns-in-MalformedAtEnd : goal.returns-in-MalformedAtEnd
 returns-in-MalformedAtEnd c =
     λ p sums.
     two_untold c.requires.0 p (seeded_line p) false c.wrong-in-MalformedAtEnd.ensures _ c.read_number.ensures
-    c.enum_told-in-MalformedAtEnd-1.given.1
+    c.in-MalformedAtEnd.is
 
 pub returns-else-not-more : goal.returns-else-not-more
 returns-else-not-more c =
     let read = c.read_number in
-    let is = c.seed-1.given.1 in
+    let is = c.in-Is.is in
     let t = first_told c.requires.0 read.ensures is
-    (not-false _ c.if-not-more.false) in
+    c.if-not-more.false in
     let rest = c.count_line in
     λ p sums.
     two_formed (seeded_line p) t
     (rest.ensures p (fits_in t.number) (seeded t.number) (none_yet sums) (ap not t.whole)
-    (seed_coded t.number c.seed-1.given.0.0 t.held))
+    (seed_coded t.number c.in-Is.seed t.held))

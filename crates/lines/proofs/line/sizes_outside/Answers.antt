@@ -5,10 +5,10 @@ use Rattle.lines.proofs.line.sizes_outside.Goals as goal
 
 pub returns-in-First : goal.returns-in-First
 returns-in-First c =
-    rw c.enum_told-1.given.1
+    rw c.in-First.is
 
 pub returns-in-Second : goal.returns-in-Second
 returns-in-Second c =
-    let form = c.form-1.given in
-    rw (form.1, c.either.ensures, c.outside.ensures, c.outside-in-Second.ensures)
-    (not_both (within 1 64 form.0.0) (within 1 16 form.0.1.0))
+    let form = c.in-Second in
+    rw (form.is, c.either.ensures, c.outside.ensures, c.outside-in-Second.ensures)
+    (not_both (within 1 64 form.slots) (within 1 16 form.capacity))

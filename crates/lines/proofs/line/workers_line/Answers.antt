@@ -10,7 +10,7 @@ use Rattle.lines.proofs.line.workers_line.Goals as goal
 pub slots_line-requires : goal.slots_line-requires
 slots_line-requires c =
     let read = c.read_number in
-    let is = c.workers-1.given.1 in
+    let is = c.in-Is.is in
     let t = first_told c.requires.0 read.ensures is
     c.if-more.true in
     (t.fields.within, t.looked)
@@ -18,7 +18,7 @@ slots_line-requires c =
 pub returns-then-more : goal.returns-then-more
 returns-then-more c =
     let read = c.read_number in
-    let is = c.workers-1.given.1 in
+    let is = c.in-Is.is in
     let t = first_told c.requires.0 read.ensures is
     c.if-more.true in
     let rest = c.slots_line in
@@ -28,21 +28,21 @@ pub returns-in-Malformed : goal.returns-in-Malformed
 returns-in-Malformed c =
     λ p sums.
     in_form_untold c.requires.0 p (workers_line p) true c.wrong.ensures _ c.read_number.ensures
-    c.enum_told-1.given.1
+    c.in-Malformed.is
 
 pub returns-in-MalformedAtEnd : goal.returns-in-MalformedAtEnd
 returns-in-MalformedAtEnd c =
     λ p sums.
     in_form_untold c.requires.0 p (workers_line p) false c.wrong-in-MalformedAtEnd.ensures _ c.read_number.ensures
-    c.enum_told-in-MalformedAtEnd-1.given.1
+    c.in-MalformedAtEnd.is
 
 pub returns-else-more : goal.returns-else-more
 returns-else-more c =
     let read = c.read_number in
-    let is = c.workers-1.given.1 in
+    let is = c.in-Is.is in
     let t = first_told c.requires.0 read.ensures is
     c.if-more.false in
     λ p sums.
     first_formed (workers_line p) t
-    (workers_judged p t.number First c.workers-1.given.0.1.1.0 t.held refl
+    (workers_judged p t.number First c.in-Is.next t.held refl
     (c.form_line.ensures p (ap not (none_yet sums))))

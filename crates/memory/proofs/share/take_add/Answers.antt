@@ -10,4 +10,4 @@ overflow_sub-own c =
 
 pub returns : goal.returns
 returns c =
-    rw (still c.args.own.now layout.adds_at _ layout.adds_count refl) ((refl, refl), λ p mail i adds h. stored_take_add h)
+    rw (still c.args.own.now layout.adds_at _ layout.adds_count refl) record { numbers = (refl, refl); meaning = λ p mail i adds h. stored_take_add h }

@@ -10,7 +10,7 @@ use Rattle.steps.proofs.station.wait_with.Goals as goal
 
 pub bounds-own-3 : goal.bounds-own-3
 bounds-own-3 c =
-    omega (arith, c.go.auto.0, c.requires)
+    omega (arith, c.go.auto.own, c.requires)
 
 pub returns : goal.returns
 returns c =
