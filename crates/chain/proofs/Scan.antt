@@ -2,7 +2,7 @@
 use Prim.Native.Nat.{ℕ, suc, ◌+◌, ◌≤◌, ◌<◌}
 use native.Mathlib.Omega.{arith}
 use mathlib.Core.Path.{◌≡◌, refl, sym, ap, ◌∙◌}
-use mathlib.Core.Logic.{◌⊎◌, inl, inr, ⊎_elim}
+use mathlib.Core.Logic.{inl, inr, ⊎_elim}
 use mathlib.Core.Bool.{true}
 use mathlib.Core.List.{List, [], ◌∷◌}
 use lib.ListN.{length, get_or, set}
@@ -10,7 +10,7 @@ use lib.Seq.{get_or-set_same, get_or-set_other}
 use Rattle.runs.specs.Update.{order}
 use Rattle.plan.specs.Plan.{Task}
 use Rattle.plan.specs.Chains.{task_at, conflict, Follow, Chain, chain_cost}
-use Rattle.chain.specs.Longest.{Before, longest}
+use Rattle.chain.specs.Longest.{Before}
 use Rattle.chain.specs.Ordered.{longest_only, longest_none}
 use Rattle.chain.specs.declared.link.Link.{Link}
 use Rattle.chain.specs.Links.{Leads, Found, KnownAt, Known, Starts, Rising}
@@ -156,6 +156,7 @@ module _ (ts : List Task) where
     first_none low known = found_first There ⊥ low known none low
       where
         none : (ys : List ℕ) → Upto There ⊥ 0 ys → chain_cost ts ys < get_or sums 0 0
+        none [] h = elim h [ ]
         none (k ∷ ks) (l, o, h) = absurd (omega arith)
 
   module _ {nexts : List ℕ} where
@@ -167,9 +168,11 @@ module _ (ts : List Task) where
         record { leads = rw (← same) chain.leads; sum = rw (← same) chain.sum }
       where
         to : (xs : List ℕ) → Upto There ⊥ j xs → Chain ts xs
+        to [] h = elim h [ ]
         to (k ∷ ks) (l, o, h) = (o, h)
 
         from : (xs : List ℕ) → Chain ts xs → Upto There ⊥ j xs
+        from [] h = elim h [ ]
         from (k ∷ ks) (o, h) = (omega arith, o, h)
 
     -- there is no task

@@ -18,6 +18,8 @@ use Rattle.chain.specs.Longest.{Before, Dearest, Longest, following, chains_from
 -- ---- the order of lists is one
 
 pub before_not_after : (xs ys : List ℕ) → Before xs ys → ¬ Before ys xs
+before_not_after [] [] l m = elim l [ ]
+before_not_after (x ∷ xs) [] l m = elim l [ ]
 before_not_after [] (y ∷ ys) l m = m
 before_not_after (x ∷ xs) (y ∷ ys) (inl l) (inl m) = absurd (omega arith)
 before_not_after (x ∷ xs) (y ∷ ys) (inl l) (inr (e, m)) = absurd (omega arith)
@@ -58,22 +60,27 @@ module _ (ts : List Task) where
   From i (x ∷ xs) = (i ≤ x) × Chain ts (x ∷ xs)
 
   from_chain : (i : ℕ) (xs : List ℕ) → From i xs → Chain ts xs
+  from_chain i [] h = elim h [ ]
   from_chain i (x ∷ xs) (l, f) = f
 
   from_later : (i : ℕ) (xs : List ℕ) → From (suc i) xs → From i xs
+  from_later i [] h = elim h [ ]
   from_later i (x ∷ xs) (l, f) = (omega arith, f)
 
   -- task i before a later chain with whose first task it conflicts
   put_before : (i : ℕ) → i < length ts → (xs : List ℕ) → From (suc i) xs → conflict (task_at ts i) (task_at ts (get_or xs 0 0)) ≡ true
       → From i (i ∷ xs)
+  put_before i b [] h e = elim h [ ]
   put_before i b (x ∷ xs) (l, (c, f)) e = (omega arith, (b, (omega arith, c, e, f)))
 
   in_map : (i : ℕ) (xss : List (List ℕ)) (xs : List ℕ) → Memᴰ xs (map (λ ys. i ∷ ys) xss)
       → (ys : List ℕ) × Memᴰ ys xss × (xs ≡ i ∷ ys)
+  in_map i [] xs h = elim h [ ]
   in_map i (ys ∷ yss) xs (Memᴰ.head e) = (ys, Memᴰ.head refl, e)
   in_map i (ys ∷ yss) xs (Memᴰ.tail k) = let (zs, m, e) = in_map i yss xs k in (zs, Memᴰ.tail m, e)
 
   map_in : (i : ℕ) (xss : List (List ℕ)) (xs : List ℕ) → Memᴰ xs xss → Memᴰ (i ∷ xs) (map (λ ys. i ∷ ys) xss)
+  map_in i [] xs h = elim h [ ]
   map_in i (ys ∷ yss) xs (Memᴰ.head e) = Memᴰ.head (ap (λ zs. i ∷ zs) e)
   map_in i (ys ∷ yss) xs (Memᴰ.tail k) = Memᴰ.tail (map_in i yss xs k)
 
@@ -83,6 +90,7 @@ module _ (ts : List Task) where
 
     in_following : (xss : List (List ℕ)) (xs : List ℕ) → Memᴰ xs (following ts i xss) → Memᴰ xs xss × (Joins xs ≡ true)
     unfolding following
+    in_following [] xs m = elim m [ ]
     in_following (ys ∷ yss) xs m = go (Joins ys) refl (in_following yss xs) m
       where
         go : (b : Bool) → Joins ys ≡ b → (Memᴰ xs (following ts i yss) → Memᴰ xs yss × (Joins xs ≡ true))
@@ -93,6 +101,7 @@ module _ (ts : List Task) where
 
     following_in : (xss : List (List ℕ)) (xs : List ℕ) → Memᴰ xs xss → Joins xs ≡ true → Memᴰ xs (following ts i xss)
     unfolding following
+    following_in [] xs h e = elim h [ ]
     following_in (ys ∷ yss) xs (Memᴰ.head q) e = rw (← q, e) (Memᴰ.head refl)
     following_in (ys ∷ yss) xs (Memᴰ.tail k) e = go (Joins ys) (following_in yss xs k e)
       where
@@ -103,6 +112,7 @@ module _ (ts : List Task) where
   -- only chains are found
   only_chains : (i n : ℕ) → i + n ≡ length ts → (xs : List ℕ) → Memᴰ xs (chains_from ts i n) → From i xs
   unfolding chains_from
+  only_chains i zero e xs h = elim h [ ]
   only_chains i (suc n) e xs (Memᴰ.head q) = rw q (omega arith, (omega arith, tt))
   only_chains i (suc n) e xs (Memᴰ.tail k) =
       let later = only_chains (suc i) n (omega arith) in
@@ -124,6 +134,8 @@ module _ (ts : List Task) where
 
   all_chains : (i n : ℕ) → i + n ≡ length ts → (xs : List ℕ) → From i xs → Memᴰ xs (chains_from ts i n)
   unfolding chains_from
+  all_chains i zero e [] h = elim h [ ]
+  all_chains i (suc n) e [] h = elim h [ ]
   all_chains i zero e (x ∷ xs) (l, (b, f)) = absurd (omega arith)
   all_chains i (suc n) e (x ∷ xs) (l, (b, f)) =
       let later = chains_from ts (suc i) n in
@@ -164,6 +176,7 @@ module _ (ts : List Task) where
 
   -- what begins with task i comes before what begins later
   begins_before : (i : ℕ) (xs ys : List ℕ) → From (suc i) ys → Before (i ∷ xs) ys
+  begins_before i xs [] h = elim h [ ]
   begins_before i xs (y ∷ ys) (l, f) = inl (omega arith)
 
   -- they are found in their order
@@ -187,6 +200,7 @@ module _ (ts : List Task) where
           rw q (inr (refl, some zs (only_chains (suc i) n (omega arith) zs (in_following i (chains_from ts (suc i) n) zs m).0)))
         where
           some : (zs : List ℕ) → From (suc i) zs → Before [] zs
+          some [] f = elim f [ ]
           some (z ∷ zs) f = tt
 
   -- ---- the first of those that cost most
@@ -212,6 +226,7 @@ module _ (ts : List Task) where
       (λ k. Memᴰ.head refl)
 
   none_dearer : (xss : List (List ℕ)) (ys : List ℕ) → Memᴰ ys xss → chain_cost ts ys ≤ chain_cost ts (dearest ts xss)
+  none_dearer [] ys h = elim h [ ]
   none_dearer (xs ∷ xss) ys (Memᴰ.head e) =
       dearest_by (λ d. chain_cost ts ys ≤ chain_cost ts d) xs xss (λ k. rw e (omega arith)) (λ k. rw e (omega arith))
   none_dearer (xs ∷ xss) ys (Memᴰ.tail m) =
@@ -220,6 +235,7 @@ module _ (ts : List Task) where
 
   none_before : (xss : List (List ℕ)) → Sorted xss → (ys : List ℕ) → Memᴰ ys xss
       → chain_cost ts ys ≡ chain_cost ts (dearest ts xss) → ¬ Before ys (dearest ts xss)
+  none_before [] _ ys h = elim h [ ]
   none_before (xs ∷ xss) (a, f) ys (Memᴰ.head e) =
       dearest_by (λ d. chain_cost ts ys ≡ chain_cost ts d → ¬ Before ys d) xs xss
       (λ k q. absurd (omega (arith, ap (chain_cost ts) e))) (λ k q. rw e (not_itself xs))
@@ -243,6 +259,7 @@ module _ (ts : List Task) where
   )
     where
       from_start : (xs : List ℕ) → Chain ts xs → From 0 xs
+      from_start [] c = elim c [ ]
       from_start (x ∷ xs) c = (omega arith, c)
 
   pub in_order : Sorted (chains_from ts 0 (length ts))
@@ -267,6 +284,7 @@ module _ (ts : List Task) where
   longest_only xs h = only_one h (longest_chain_lem (some xs h.one))
     where
       some : (xs : List ℕ) → Chain ts xs → 0 < length ts
+      some [] h = elim h [ ]
       some (x ∷ xs) (l, f) = omega arith
 
   -- of a plan without tasks none

@@ -66,10 +66,12 @@ module _ (ts : List Task) where
 
     pub chain_cheap : (xs : List ℕ) → Chain ts xs → chain_cost ts xs ≤ 1000 * length ts
     unfolding chain_cost
+    chain_cheap [] h = elim h [ ]
     chain_cheap (i ∷ is) (l, f) = omega (arith, cheap i l, follow_cheap i l is f)
 
     chain_bytes : (xs : List ℕ) → Chain ts xs → numbers_bytes xs ≤ below (length ts)
     unfolding numbers_bytes sum
+    chain_bytes [] h = elim h [ ]
     chain_bytes (i ∷ is) (l, f) = omega (arith, follow_bytes i is l f)
 
     -- the longest chain, and none of a plan without tasks

@@ -5,7 +5,8 @@
 ghost use Rattle.std.specs.Prelude.{◌≡◌, List, ◌≤◌, length};
 ghost use Rattle.plan.specs.Plan.{Task};
 ghost use Rattle.kept.specs.Layout as lay;
-ghost use Rattle.tools.specs.Result.{result, outcome, written};
+ghost use Rattle.tools.specs.Result as results;
+ghost use Rattle.tools.specs.Result.{outcome, written};
 ghost use Rattle.tools.specs.Told.{told, told_of};
 ghost use Rattle.chain.specs.Longest.{chain_line, chain_of};
 ghost use Rattle.chain.specs.Links.{Kept};
@@ -24,8 +25,8 @@ mod link; // link.rt: which task comes next in the longest chain
 // Writes the longest chain of n tasks that are kept.
 fn tell(rows: &[u64], n: usize, output: &mut [u8]) -> Answer
     requires { (length rows.now ≡ lay.task_rows) × ((ts : List Task) × Kept rows.now n ts) }
-    ensures* { λ r. ⌜ ((ts : List Task) → Kept rows.now n ts →
-        outcome r output.new ≡ written output.old (result (chain_line ts))) ⌝ }
+    ensures { (ts : List Task) → Kept rows.now n ts →
+        outcome result output.new ≡ written output.old (results.result (chain_line ts)) }
 {
     let mut sums = [0u64; layout::MOST_TASKS];
     let mut nexts = [0u64; layout::MOST_TASKS];
@@ -42,8 +43,8 @@ fn tell(rows: &[u64], n: usize, output: &mut [u8]) -> Answer
 
 // Writes the longest chain of a plan's text.
 pub fn longest_chain(text: &[u8], output: &mut [u8]) -> Answer
-    ensures* outcome { λ r. ⌜ outcome r output.new ≡ written output.old (chain_of text.now) ⌝ }
-    ensures* told { λ r. ⌜ told r ≡ told_of output.old (chain_of text.now) ⌝ }
+    ensures outcome { outcome result output.new ≡ written output.old (chain_of text.now) }
+    ensures told { told result ≡ told_of output.old (chain_of text.now) }
 {
     let mut rows = [0u64; layout::TASK_ROWS];
     let mut no_orders = [0u64; 1];

@@ -136,7 +136,7 @@ module _ {m : Memory} {own : List ℕ} {w : ℕ} (a : Able m own w) where
         (rw effects there)
         (rw effects slot)
         (λ u d. rw effects)
-        a.holds.device.ready_at
+        a.holds.device.ready_at_lem
         (rw effects (list_on hands_on))
         (rw effects (givers_on hands_on refl))
         (masks_on hands_on refl)

@@ -83,7 +83,7 @@ module _ {m : Memory} {own : List ℕ} {w : ℕ} (a : Able m own w) where
         (rw effects there)
         (rw effects slot)
         (λ v d. rw effects)
-        a.holds.device.ready_at
+        a.holds.device.ready_at_lem
         (rw effects a.holds.device.ready)
         (rw effects a.holds.device.givers)
         a.holds.device.masks

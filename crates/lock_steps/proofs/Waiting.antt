@@ -132,7 +132,7 @@ module _ {m : Memory} {own : List ℕ} {w : ℕ} (a : Able m own w) where
           (got.there (a.s.place w) idle (a.s.queue w) (own_stationed a) refl)
           tt
           (λ v d. refl)
-          a.holds.device.ready_at
+          a.holds.device.ready_at_lem
           a.holds.device.ready
           a.holds.device.givers
           a.holds.device.masks

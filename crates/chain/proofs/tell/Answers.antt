@@ -10,7 +10,7 @@ put_chain-length-requires c =
 
 pub returns-then-output-length : goal.returns-then-output-length
 returns-then-output-length c ts kept =
-    let nexts = c.link_tasks.new.1.1.1.0 in
+    let nexts = c.link_tasks.new.nexts in
     let starts = c.find_first-first.ensures ts nexts kept.count (c.link_tasks.ensures.known ts kept) in
     told_short kept.count starts c.put_chain-length.ensures c.args.output.now c.if-output-length.true
 
@@ -21,6 +21,6 @@ put_chain-requires c =
 
 pub returns : goal.returns
 returns c ts kept =
-    let nexts = c.link_tasks.new.1.1.1.0 in
+    let nexts = c.link_tasks.new.nexts in
     let starts = c.find_first-first.ensures ts nexts kept.count (c.link_tasks.ensures.known ts kept) in
     told_whole kept.count starts c.put_chain-length.ensures c.args.output.now c.if-output-length.false c.put_chain.ensures

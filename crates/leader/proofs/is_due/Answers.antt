@@ -14,16 +14,16 @@ pub returns-in-NotYet : goal.returns-in-NotYet
 returns-in-NotYet c =
     λ head tail registrations.
     due_seen _ _ _ _ _ c.if-place-lt-REGISTERING.false c.if-place-gt-LOOKING.false _ _ (c.look.ensures head tail registrations)
-    c.enum_told-1.given.1
+    c.in-NotYet.is
 
 pub returns-in-Receives : goal.returns-in-Receives
 returns-in-Receives c =
     λ head tail registrations.
     due_seen _ _ _ _ _ c.if-place-lt-REGISTERING.false c.if-place-gt-LOOKING.false _ _ (c.look.ensures head tail registrations)
-    c.enum_told-in-Receives-1.given.1
+    c.in-Receives.is
 
 pub returns-in-Owns : goal.returns-in-Owns
 returns-in-Owns c =
     λ head tail registrations.
     due_seen _ _ _ _ _ c.if-place-lt-REGISTERING.false c.if-place-gt-LOOKING.false _ _ (c.look.ensures head tail registrations)
-    c.enum_told-in-Owns-1.given.1
+    c.in-Owns.is

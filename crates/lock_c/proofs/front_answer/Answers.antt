@@ -7,5 +7,5 @@ use Rattle.lock_c.proofs.front_answer.Goals as goal
 
 pub returns-in-Nobody : goal.returns-in-Nobody
 returns-in-Nobody c =
-    let nobody = sym c.enum_told-1.given.1 in
+    let nobody = sym c.in-Nobody.is in
     (ap (λ (x : Front). front_kind (waiter x)) nobody, ap (λ (x : Front). front_value (waiter x)) nobody)

@@ -28,7 +28,7 @@ pub returns : goal.returns
 returns c =
     let ends = c.ends_at.ensures in
     let handed = c.hand_over-handed.ensures in
-    let told = handed.1.1.1 in
+    let told = handed.tells in
     accepted (omega (arith, c.ranges.tail)) (
       refl,
       handed.ends.0 ∙ ends.0,

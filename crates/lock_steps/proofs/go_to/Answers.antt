@@ -14,5 +14,5 @@ go-requires c =
 
 pub returns : goal.returns
 returns c =
-    gone c.args.own.now c.go.new.0 c.args.place c.args.number c.requires c.go.auto.0
+    gone c.args.own.now c.go.new.own c.args.place c.args.number c.requires c.go.auto.own
     c.go.ensures.meaning

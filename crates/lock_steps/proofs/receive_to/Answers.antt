@@ -7,5 +7,5 @@ returns c =
     let x = c.args in
     let receive = c.receive in
     let gone = c.go_to in
-    received x.own.now receive.new.1.0 c.requires.2 x.rows.now receive.new.0 gone.new.0
-    x.task x.w x.time x.place receive.ensures.1 gone.ensures
+    received x.own.now receive.new.own c.requires.2 x.rows.now receive.new.rows gone.new.own
+    x.task x.w x.time x.place receive.ensures.meaning gone.ensures

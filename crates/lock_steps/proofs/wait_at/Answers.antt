@@ -16,4 +16,4 @@ wait_with-requires c =
 pub returns : goal.returns
 returns c =
     let own = c.args.own.now in
-    let waits = c.wait_with in record { gone = gone own waits.new.0 LOOKING c.args.ticket c.requires waits.auto.0 waits.ensures.1; slot = noted own waits.new.0 LOOKING c.args.ticket c.args.slot c.requires waits.ensures.0 }
+    let waits = c.wait_with in record { gone = gone own waits.new.own LOOKING c.args.ticket c.requires waits.auto.own waits.ensures.meaning; slot = noted own waits.new.own LOOKING c.args.ticket c.args.slot c.requires waits.ensures.numbers }

@@ -9,5 +9,5 @@ pub returns : goal.returns
 returns c =
     let text = c.args.text.now in
     let read = c.read in
-    let after = lent read.new.1.0 read.new.1.1.0 in
+    let after = lent read.new.rows read.new.orders in
     gives_outlined text (lent [] []) after read.result (reading text) read.ensures

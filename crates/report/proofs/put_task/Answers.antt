@@ -13,4 +13,7 @@ put_task_line-requires c =
 pub returns : goal.returns
 returns c =
     let label = c.label-label.ensures ∙ ap (label_in c.args.text.now) c.label_of-stands.ensures in
-    let wrote = c.put_task_line.ensures in record { short = wrote.short; wrote = λ setup state shown. wrote_task shown label c.outcome_of.ensures refl wrote.wrote }
+    let wrote = c.put_task_line.ensures in record {
+      short = wrote.short;
+      wrote = λ setup state shown. wrote_task shown label c.outcome_of.ensures refl wrote.wrote;
+    }

@@ -1,4 +1,4 @@
-use Prim.Native.Nat.{ℕ, ◌+◌, ◌*◌, ◌-◌, ◌^◌, ◌≤◌, ◌<◌}
+use Prim.Native.Nat.{ℕ, ◌+◌, ◌*◌, ◌^◌, ◌≤◌, ◌<◌}
 use native.Mathlib.Omega.{arith}
 use native.Mathlib.Numerals.{add-one}
 use mathlib.Core.Path.{◌≡◌, refl, ap, ◌∙◌}
@@ -61,4 +61,7 @@ pub returns : goal.returns
 returns c =
     let at = c.loop-i in
     let all : at.i ≡ c.args.n = omega (arith, at.invariant.0, c.loop-i-test.false) in
-    let e : at.total ≡ ones_of c.args.masks.now c.args.n = at.invariant.1 ∙ ap (ones_of c.args.masks.now) all in record { numbers = e; meaning = λ x n h. e ∙ ap (ones_of c.args.masks.now) n ∙ total_ones x c.args.masks.now h }
+    let e : at.total ≡ ones_of c.args.masks.now c.args.n = at.invariant.1 ∙ ap (ones_of c.args.masks.now) all in record {
+      numbers = e;
+      meaning = λ x n h. e ∙ ap (ones_of c.args.masks.now) n ∙ total_ones x c.args.masks.now h;
+    }

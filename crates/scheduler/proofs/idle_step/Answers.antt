@@ -9,16 +9,8 @@ use Rattle.steps.specs.Memory.{Memory, with_tasks}
 use Rattle.steps.proofs.Acting.{own_long}
 use borrow.Author.Tests.{ltb-true, ltb-false}
 use Rattle.scheduler.proofs.idle_step.Goals as goal
-
--- the memory before the step
-abbrev given-in : Memory → goal.Start → Memory
-given-in m s = with_tasks m s.args.n s.args.rows.now s.args.accesses.now
-
-abbrev given : goal.Start → Memory
-given s = given-in s.requires.0.0 s
-
-none_of : (k : ℕ) → ltb 0 k ≡ false → k ≡ 0
-none_of k e = omega (arith, ltb-false 0 k e)
+use Rattle.scheduler.proofs.idle_step.Goals.{then-own-gt-FREE-via-then-own-gt-FREE, then-own-gt-FREE-via-else-own-gt-FREE+then-own-gt0}
+use Rattle.scheduler.proofs.idle_step.Goals.{then-w-eq0+else-is_creating, else-w-eq0}
 
 pub bounds-own : goal.bounds-own
 bounds-own c =
@@ -29,8 +21,14 @@ bounds-own-else-own-gt-FREE c =
     omega (arith, own_long c.requires.0.1)
 
 pub mind_step-requires : goal.mind_step-requires
-mind_step-requires c =
-    (c.requires.0, c.requires.1, ⊎_elim (λ t. inl t.taken) (λ t. inr (ltb-true _ _ t.2.taken)) c.then-own-gt-FREE.branch)
+mind_step-requires c = (
+  c.requires.0,
+  c.requires.1,
+  elim c.then-own-gt-FREE.branch [
+    | then-own-gt-FREE-via-then-own-gt-FREE w ↦ inl w.if-own-gt-FREE.true
+    | then-own-gt-FREE-via-else-own-gt-FREE+then-own-gt0 w ↦ inr w.if-own-gt0.true
+  ],
+)
 
 pub bounds-own-2 : goal.bounds-own-2
 bounds-own-2 c =
@@ -42,31 +40,31 @@ bounds-own-2-then-own-gt0-2 c =
 
 pub push_step-requires : goal.push_step-requires
 push_step-requires c = (
-  (given c.before.before.before.before.before.before.before.before.before.before.before.before.before, c.requires.0.1),
+  (with_tasks c.requires.0.0 c.args.n c.args.rows.now c.args.accesses.now, c.requires.0.1),
   c.requires.1,
   omega (arith, c.if-own-gt-FREE.false),
-  none_of _ c.if-own-gt0.false,
+  omega (arith, c.if-own-gt0.false),
   c.if-own-gt0-2.true,
   c.if-own-n.true,
 )
 
 pub returns-then-own-n : goal.returns-then-own-n
 returns-then-own-n c =
-    λ m. c.push_step.ensures (given-in m c.before.before.before.before.before.before.before.before.before.before.before.before.before.before.before.before)
+    λ m. c.push_step.ensures (with_tasks m c.args.n c.args.rows.now c.args.accesses.now)
 
 pub full_step-requires : goal.full_step-requires
 full_step-requires c = (
-  (given c.before.before.before.before.before.before.before.before.before.before.before.before.before, c.requires.0.1),
+  (with_tasks c.requires.0.0 c.args.n c.args.rows.now c.args.accesses.now, c.requires.0.1),
   c.requires.1,
   omega (arith, c.if-own-gt-FREE.false),
-  none_of _ c.if-own-gt0.false,
+  omega (arith, c.if-own-gt0.false),
   c.if-own-gt0-2.true,
   c.if-own-n.false,
 )
 
 pub returns-then-own-gt0-2 : goal.returns-then-own-gt0-2
 returns-then-own-gt0-2 c =
-    λ m. c.full_step.ensures (given-in m c.before.before.before.before.before.before.before.before.before.before.before.before.before.before.before.before)
+    λ m. c.full_step.ensures (with_tasks m c.args.n c.args.rows.now c.args.accesses.now)
 
 pub create_step-requires : goal.create_step-requires
 create_step-requires c =
@@ -74,9 +72,9 @@ create_step-requires c =
       (m, rw c.if-w-eq0.true at able),
       c.requires.1,
       omega (arith, c.if-own-gt-FREE.false),
-      none_of _ c.if-own-gt0.false,
+      omega (arith, c.if-own-gt0.false),
       omega (arith, c.if-own-gt0-2.false),
-      sym c.is_creating.ensures ∙ c.if-w-eq0.true,
+      sym c.is_creating.ensures ∙ c.if-is_creating.true,
     )
 
 pub returns-then-is_creating : goal.returns-then-is_creating
@@ -86,15 +84,18 @@ returns-then-is_creating c =
 pub ticket_step-requires : goal.ticket_step-requires
 ticket_step-requires c =
     record {
-      place_at_value = ((given c.before.before.before.before.before.before.before.before.before.before.before, c.requires.0.1), c.requires.1);
+      place_at_value = ((with_tasks c.requires.0.0 c.args.n c.args.rows.now c.args.accesses.now, c.requires.0.1), c.requires.1);
       stand_value = (
         omega (arith, c.if-own-gt-FREE.false),
-        none_of _ c.if-own-gt0.false,
+        omega (arith, c.if-own-gt0.false),
         omega (arith, c.if-own-gt0-2.false),
-        ⊎_elim (λ t. inr (sym t.1.ensures ∙ t.2.left)) (λ t. inl t.left) c.if-w-eq0.branch,
+        elim c.if-w-eq0.branch [
+          | then-w-eq0+else-is_creating w ↦ inr (sym w.is_creating.ensures ∙ w.if-is_creating.false)
+          | else-w-eq0 w ↦ inl w.if-w-eq0.false
+        ],
       );
     }
 
 pub returns : goal.returns
 returns c =
-    λ m. c.ticket_step.ensures (given-in m c.before.before.before.before.before.before.before.before.before.before.before.before.before.before)
+    λ m. c.ticket_step.ensures (with_tasks m c.args.n c.args.rows.now c.args.accesses.now)

@@ -5,8 +5,8 @@ use Rattle.tools.proofs.in_numbers.Goals as goal
 
 pub returns-in-Writes : goal.returns-in-Writes
 returns-in-Writes c =
-    ap numbers (sym c.answer-1.given.1)
+    ap numbers (sym c.in-Writes.is)
 
 pub returns-in-Refuses : goal.returns-in-Refuses
 returns-in-Refuses c =
-    rw c.number_of.ensures (ap numbers (sym c.answer-in-Refuses-1.given.1))
+    rw c.number_of.ensures (ap numbers (sym c.in-Refuses.is))

@@ -11,8 +11,8 @@ by before after n e shown = rw e shown
 
 pub returns-in-Writes : goal.returns-in-Writes
 returns-in-Writes c =
-    by _ _ _ c.answer-1.given.1 (refl, refl)
+    by _ _ _ c.in-Writes.is (refl, refl)
 
 pub returns-in-Refuses : goal.returns-in-Refuses
 returns-in-Refuses c =
-    by _ _ _ c.answer-in-Refuses-1.given.1 c.put_refusal.ensures
+    by _ _ _ c.in-Refuses.is c.put_refusal.ensures

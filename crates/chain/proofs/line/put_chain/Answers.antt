@@ -1,4 +1,3 @@
-use Prim.Native.Nat.{◌-◌}
 use mathlib.Core.Path.{refl, ◌∙◌}
 use native.Mathlib.Omega.{arith}
 use Rattle.text.specs.WritingLaws.{wrote_length}
@@ -32,10 +31,10 @@ loop-at-preserved c =
     let turn = c.loop-at in
     let below = c.loop-at-test.true in
     let later = c.requires.2 turn.at below in (
-      wrote_length put.ensures.1 ∙ turn.invariant.0,
+      wrote_length put.ensures.wrote ∙ turn.invariant.0,
       omega (arith, turn.invariant.1),
-      omega (arith, turn.invariant.2, put.ensures.0),
-      λ xs leads. going_on _ _ below (turn.invariant.3 xs leads) put.ensures.1 c.end_before-in-loop-at.ensures,
+      omega (arith, turn.invariant.2, put.ensures.short),
+      λ xs leads. going_on _ _ below (turn.invariant.3 xs leads) put.ensures.wrote c.end_before-in-loop-at.ensures,
     )
 
 pub shape_of-out : goal.shape_of-out

@@ -1,11 +1,11 @@
-use Prim.Native.Nat.{◌-◌, ◌<◌}
+use Prim.Native.Nat.{◌<◌}
 use mathlib.Core.Path.{sym, ◌∙◌}
-use mathlib.Core.Logic.{⊎_elim}
 use native.Mathlib.Omega.{arith}
 use native.Mathlib.Numerals.{add-one}
 use lib.ListN.{length}
 use Rattle.chain.proofs.Scan.{There, found_link, found_more, found_same, first_none, first_all, first_nothing}
 use Rattle.chain.proofs.link.find_first.Goals as goal
+use Rattle.chain.proofs.link.find_first.Goals.{then-first-sums, else-first-sums}
 
 pub returns-then-n-eq0 : goal.returns-then-n-eq0
 returns-then-n-eq0 c ts nexts e known =
@@ -28,10 +28,12 @@ loop-j-preserved c =
           let found = turn.invariant.1 ts nexts e known in
           let at = known turn.j (omega arith) low in
           rw (add-one turn.j)
-          (⊎_elim
-          (λ (taken, slice, is). found_link c.if-first-sums.first is (found_more ts (There ts) ⊥ low at found low (omega (arith, taken.taken))))
-          (λ (left, is). found_link c.if-first-sums.first is (found_same ts (There ts) ⊥ low at found (λ _. left.left)))
-          c.if-first-sums.branch),
+          (elim c.if-first-sums.branch [
+            | then-first-sums w ↦
+                found_link c.if-first-sums.first w.first-is (found_more ts (There ts) ⊥ low at found low (omega (arith, w.if-first-sums.true)))
+            | else-first-sums w ↦
+                found_link c.if-first-sums.first w.first-is (found_same ts (There ts) ⊥ low at found (λ _. w.if-first-sums.false))
+          ]),
     )
 
 pub returns : goal.returns

@@ -1,6 +1,5 @@
-use Prim.Native.Nat.{◌-◌, ◌<◌}
+use Prim.Native.Nat.{◌<◌}
 use mathlib.Core.Path.{◌≡◌, sym, ◌∙◌}
-use mathlib.Core.Logic.{⊎_elim}
 use mathlib.Core.Bool.{true, false}
 use native.Mathlib.Omega.{arith}
 use native.Mathlib.Numerals.{add-one}
@@ -9,6 +8,7 @@ use Rattle.runs.specs.Update.{clash}
 use Rattle.plan.specs.Chains.{no_task, task_at}
 use Rattle.chain.proofs.Scan.{Joins, found_link, found_more, found_same, next_none, next_all}
 use Rattle.chain.proofs.link.find_next.Goals as goal
+use Rattle.chain.proofs.link.find_next.Goals.{then-found-sums+then-conflict, then-found-sums+else-conflict, else-found-sums}
 
 pub overflow_add-j : goal.overflow_add-j
 overflow_add-j c =
@@ -84,21 +84,21 @@ loop-j-preserved c =
           let first = kept.tasks i here no_task in
           let second = kept.tasks turn.j low no_task in
           rw (add-one turn.j)
-          (⊎_elim
-          (λ (dearer, tested, joins, slice, is).
-          found_link c.if-found-sums.found is
-          (more (turn.invariant.0, low, sym (tested.ensures kept.text (task_at ts i) (task_at ts turn.j) first second) ∙ joins.taken)
-          (omega (arith, dearer.taken))))
-          (⊎_elim
-          (λ (dearer, tested, apart, is).
-          found_link c.if-found-sums.found is
-          (same
-          (λ (a, b, e).
-          let z = tested.ensures kept.text (task_at ts i) (task_at ts turn.j) first second in
-          let q : true ≡ false = sym (z ∙ e) ∙ apart.left in
-          clash (cc))))
-          (λ (cheaper, is). found_link c.if-found-sums.found is (same (λ _. cheaper.left))))
-          c.if-found-sums.branch),
+          (elim c.if-found-sums.branch [
+            | then-found-sums+then-conflict w ↦
+                found_link c.if-found-sums.found w.found-is
+                (more
+                (turn.invariant.0, low, sym (w.conflict.ensures kept.text (task_at ts i) (task_at ts turn.j) first second) ∙ w.if-conflict.true)
+                (omega (arith, w.if-found-sums.true)))
+            | then-found-sums+else-conflict w ↦
+                found_link c.if-found-sums.found w.found-is
+                (same
+                (λ (a, b, e).
+                let z = w.conflict.ensures kept.text (task_at ts i) (task_at ts turn.j) first second in
+                let q : true ≡ false = sym (z ∙ e) ∙ w.if-conflict.false in
+                clash (cc)))
+            | else-found-sums w ↦ found_link c.if-found-sums.found w.found-is (same (λ _. w.if-found-sums.false))
+          ]),
     )
 
 pub returns : goal.returns

@@ -7,6 +7,7 @@ use mathlib.Core.Option.{none}
 use Rattle.lock.specs.Lock as L
 use Rattle.lock.specs.Answers.{seen, waiter}
 use Rattle.lock.specs.declared.Ends.{Ends}
+use Rattle.lock.specs.declared.HandedOver.{HandedOver}
 use Rattle.lock.specs.declared.Worker.{Worker}
 use Rattle.lock.specs.declared.Front.{Front}
 use Rattle.lock.specs.declared.Front.TheVariants.{Nobody, Waiter}
@@ -20,64 +21,13 @@ use Rattle.lock_steps.proofs.Stepping.{workers_few}
 use Rattle.lock_steps.proofs.Owning.{let_in_few, handed_few}
 use Rattle.lock_steps.proofs.owner.hand_on.Goals as goal
 
--- from the call of the lock's hand_over back to the beginning
-abbrev begun : goal.After-hand_over-told → goal.Start
-begun told = told.before.before.before.before.before.before.before
-
-module _ (told : goal.After-hand_over-told) where
-  abbrev slots : ℕ
-  slots = (begun told).args.n.slots
-
-  abbrev ends : Ends
-  ends = (begun told).args.n.ends
-
-  abbrev before : List ℕ
-  before = (begun told).args.wait.now
-
-  abbrev registrations : List ℕ
-  registrations = (begun told).args.registrations.now
-
-  abbrev tickets : List ℕ
-  tickets = (begun told).args.tickets.now
-
-  abbrev cells : List ℕ
-  cells = (begun told).args.cells.now
-
-  abbrev w : ℕ
-  w = (begun told).args.w
-
-  abbrev after : List ℕ
-  after = told.hand_over-told.last.1.1.0
-
-  -- the lock before it
-  abbrev lock : L.Lock
-  lock = lock_in slots ends before registrations tickets cells
-
-  hands : HandsOver slots ends before after registrations w told.hand_over-told.result
-  hands = told.hand_over-told.ensures
-
-  handed-over : lock_in slots told.hand_over-told.result.ends after registrations tickets cells ≡ L.hand_over slots lock
-  handed-over = hands.1.1.0 tickets cells
-
-  session : told.hand_over-told.result.by.0 ≡ w
-  session =
-      told_by slots ends before after registrations w told.hand_over-told.result hands tickets cells
-
-  front-is : {x : Front} → told.hand_over-told.result.let_in ≡ x → L.front slots lock ≡ waiter x
-  front-is =
-      told_front slots ends before after registrations w told.hand_over-told.result hands tickets cells
-
-  nobody-found : told.hand_over-told.result.let_in ≡ Nobody → handed_in slots lock w ≡ none
-  nobody-found =
-      hands_nobody slots ends before after registrations w told.hand_over-told.result hands tickets cells
-
-  -- what the worker let in finds, by what it sees
-  is_found : (v : Worker) → told.hand_over-told.result.let_in ≡ Waiter v
-      → (x : Looked) → Sees slots after tickets cells ends.tail.0 v.0 x → {z : Looked} → x ≡ z
-      → handed_in slots lock w ≡ found w v.0 (seen z)
-  is_found v e x sees r =
-      hands_found slots ends before after registrations w told.hand_over-told.result hands tickets cells v e x sees
-      ∙ ap (λ y. found w v.0 (seen y)) r
+-- what the worker let in finds, by what it sees
+module _ (slots : ℕ) (ends : Ends) (before after registrations : List ℕ) (w : ℕ) (r : HandedOver)
+    (k : HandsOver slots ends before after registrations w r) (tickets cells : List ℕ) where
+  is_found : (v : Worker) → r.let_in ≡ Waiter v → (x : Looked) → Sees slots after tickets cells ends.tail.0 v.0 x → {z : Looked} → x ≡ z
+      → handed_in slots (lock_in slots ends before registrations tickets cells) w ≡ found w v.0 (seen z)
+  is_found v e x sees s =
+      hands_found slots ends before after registrations w r k tickets cells v e x sees ∙ ap (λ y. found w v.0 (seen y)) s
 
 pub hand_over-told-requires : goal.hand_over-told-requires
 hand_over-told-requires c =
@@ -86,47 +36,91 @@ hand_over-told-requires c =
 
 pub look-looked-requires : goal.look-looked-requires
 look-looked-requires c =
-    let x = c.let_in-1.given in
-    let (m, own, a) = (begun c.before.before.before.before.before.before.before.before).requires in
-    let few = let_in_few a x.0.0.0 (front-is c.before.before.before.before.before.before.before.before x.1) in (
+    let x = c.args in
+    let told = c.hand_over-told in
+    let over = told.ensures in
+    let hands : HandsOver x.n.slots x.n.ends x.wait.now told.new.wait x.registrations.now x.w told.result =
+    (over.ends, (over.waits, (over.lock, over.tells))) in
+    let (m, own, a) = c.requires in
+    let few = let_in_few a c.in-Waiter.taker.0
+    (told_front x.n.slots x.n.ends x.wait.now told.new.wait x.registrations.now x.w told.result hands x.tickets.now x.cells.now c.in-Waiter.is) in (
       slots_some a,
-      omega (arith, slots_few a, a.long.wait, c.hand_over-told.auto.1.1.0),
+      omega (arith, slots_few a, a.long.wait, told.auto.wait),
       omega (arith, few, a.long.tickets),
       omega (arith, few, a.long.cells),
     )
 
 pub note_giver-requires : goal.note_giver-requires
 note_giver-requires c =
-    let y = c.looked-1.given in
-    let x = c.let_in-1.given in
-    let (m, own, a) = (begun c.before.before.before.before.before.before.before.before.before.before.before.before.before).requires in
-    let gives = is_found c.before.before.before.before.before.before.before.before.before.before.before.before.before x.0.0 x.1 c.look-looked.result c.look-looked.ensures y.1 in
-    (a.long.device, handed_few a _ gives, omega (arith, session c.before.before.before.before.before.before.before.before.before.before.before.before.before, workers_few a.fit (begun c.before.before.before.before.before.before.before.before.before.before.before.before.before).args.w a.fit.worker))
+    let x = c.args in
+    let told = c.hand_over-told in
+    let over = told.ensures in
+    let hands : HandsOver x.n.slots x.n.ends x.wait.now told.new.wait x.registrations.now x.w told.result =
+    (over.ends, (over.waits, (over.lock, over.tells))) in
+    let gives = is_found x.n.slots x.n.ends x.wait.now told.new.wait x.registrations.now x.w told.result hands x.tickets.now x.cells.now
+    c.in-Waiter.taker c.in-Waiter.is c.look-looked.result c.look-looked.ensures c.in-Receives.is in
+    let (m, own, a) = c.requires in
+    let session = told_by x.n.slots x.n.ends x.wait.now told.new.wait x.registrations.now x.w told.result hands x.tickets.now x.cells.now in
+    (a.long.device, handed_few a _ gives, omega (arith, session, workers_few a.fit x.w a.fit.worker))
 
 pub returns-in-NotYet : goal.returns-in-NotYet
 returns-in-NotYet c =
-    let x = c.let_in-1.given in
-    let gives = is_found c.before.before.before.before.before.before.before.before.before.before.before x.0.0 x.1 c.look-looked.result c.look-looked.ensures c.enum_told-1.given.1 in record { numbers = rw c.with_ends-next.ensures refl; lock = rw c.with_ends-next.ensures (handed-over c.before.before.before.before.before.before.before.before.before.before.before); giver = rw gives refl }
+    let x = c.args in
+    let told = c.hand_over-told in
+    let over = told.ensures in
+    let hands : HandsOver x.n.slots x.n.ends x.wait.now told.new.wait x.registrations.now x.w told.result =
+    (over.ends, (over.waits, (over.lock, over.tells))) in
+    let gives = is_found x.n.slots x.n.ends x.wait.now told.new.wait x.registrations.now x.w told.result hands x.tickets.now x.cells.now
+    c.in-Waiter.taker c.in-Waiter.is c.look-looked.result c.look-looked.ensures c.in-NotYet.is in
+    record {
+      numbers = rw c.with_ends-next.ensures refl;
+      lock = rw c.with_ends-next.ensures (over.lock x.tickets.now x.cells.now);
+      giver = rw gives refl;
+    }
 
 pub returns-in-Receives : goal.returns-in-Receives
 returns-in-Receives c =
-    let y = c.looked-1.given in
-    let x = c.let_in-1.given in
-    let gives = is_found c.before.before.before.before.before.before.before.before.before.before.before.before.before.before.before.before x.0.0 x.1 c.look-looked.result c.look-looked.ensures y.1 in
-    let written : c.note_giver.new.0 ≡ given_by (begun c.before.before.before.before.before.before.before.before.before.before.before.before.before.before.before.before).args.device.now y.0.0 c.hand_over-told.result.by.0 =
-    c.note_giver.ensures in record {
+    let x = c.args in
+    let told = c.hand_over-told in
+    let over = told.ensures in
+    let hands : HandsOver x.n.slots x.n.ends x.wait.now told.new.wait x.registrations.now x.w told.result =
+    (over.ends, (over.waits, (over.lock, over.tells))) in
+    let gives = is_found x.n.slots x.n.ends x.wait.now told.new.wait x.registrations.now x.w told.result hands x.tickets.now x.cells.now
+    c.in-Waiter.taker c.in-Waiter.is c.look-looked.result c.look-looked.ensures c.in-Receives.is in
+    let session = told_by x.n.slots x.n.ends x.wait.now told.new.wait x.registrations.now x.w told.result hands x.tickets.now x.cells.now in
+    let task = c.in-Receives.task in
+    let written : c.note_giver.new.device ≡ given_by x.device.now task told.result.by.0 = c.note_giver.ensures in
+    record {
       numbers = rw c.with_ends-next.ensures refl;
-      lock = rw c.with_ends-next.ensures (handed-over c.before.before.before.before.before.before.before.before.before.before.before.before.before.before.before.before);
-      giver = written
-          ∙ ap (given_by (begun c.before.before.before.before.before.before.before.before.before.before.before.before.before.before.before.before).args.device.now y.0.0) (session c.before.before.before.before.before.before.before.before.before.before.before.before.before.before.before.before)
-          ∙ sym (ap (handed_on (begun c.before.before.before.before.before.before.before.before.before.before.before.before.before.before.before.before).args.device.now) gives);
+      lock = rw c.with_ends-next.ensures (over.lock x.tickets.now x.cells.now);
+      giver = written ∙ ap (given_by x.device.now task) session ∙ sym (ap (handed_on x.device.now) gives);
     }
 
 pub returns-in-Owns : goal.returns-in-Owns
 returns-in-Owns c =
-    let x = c.let_in-1.given in
-    let gives = is_found c.before.before.before.before.before.before.before.before.before.before.before x.0.0 x.1 c.look-looked.result c.look-looked.ensures c.enum_told-in-Owns-1.given.1 in record { numbers = rw c.with_ends-next.ensures refl; lock = rw c.with_ends-next.ensures (handed-over c.before.before.before.before.before.before.before.before.before.before.before); giver = rw gives refl }
+    let x = c.args in
+    let told = c.hand_over-told in
+    let over = told.ensures in
+    let hands : HandsOver x.n.slots x.n.ends x.wait.now told.new.wait x.registrations.now x.w told.result =
+    (over.ends, (over.waits, (over.lock, over.tells))) in
+    let gives = is_found x.n.slots x.n.ends x.wait.now told.new.wait x.registrations.now x.w told.result hands x.tickets.now x.cells.now
+    c.in-Waiter.taker c.in-Waiter.is c.look-looked.result c.look-looked.ensures c.in-Owns.is in
+    record {
+      numbers = rw c.with_ends-next.ensures refl;
+      lock = rw c.with_ends-next.ensures (over.lock x.tickets.now x.cells.now);
+      giver = rw gives refl;
+    }
 
 pub returns-in_default : goal.returns-in_default
 returns-in_default c =
-    let gives = nobody-found c.before.before.before.before.before.before c.enum_told-in_default-1.given.1 in record { numbers = rw c.with_ends-next.ensures refl; lock = rw c.with_ends-next.ensures (handed-over c.before.before.before.before.before.before); giver = rw gives refl }
+    let x = c.args in
+    let told = c.hand_over-told in
+    let over = told.ensures in
+    let hands : HandsOver x.n.slots x.n.ends x.wait.now told.new.wait x.registrations.now x.w told.result =
+    (over.ends, (over.waits, (over.lock, over.tells))) in
+    let gives = hands_nobody x.n.slots x.n.ends x.wait.now told.new.wait x.registrations.now x.w told.result hands x.tickets.now x.cells.now c.in_default.is in
+    record {
+      numbers = rw c.with_ends-next.ensures refl;
+      lock = rw c.with_ends-next.ensures (over.lock x.tickets.now x.cells.now);
+      giver = rw gives refl;
+    }

@@ -26,6 +26,6 @@ pub returns : goal.returns
 returns c m =
     let hand = c.hand_on in
     let gone = c.go_to in
-    acting gone.new.0 (λ a.
-    hand_acts a hand.result hand.new.1.0 hand.new.1.1.1.1.1.0
-    hand.ensures.0 hand.ensures.1.0 hand.ensures.1.1 c.requires.1 gone.new.0 gone.ensures)
+    acting gone.new.own (λ a.
+    hand_acts a hand.result hand.new.wait hand.new.device
+    hand.ensures.numbers hand.ensures.lock hand.ensures.giver c.requires.1 gone.new.own gone.ensures)

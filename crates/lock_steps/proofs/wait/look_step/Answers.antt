@@ -26,7 +26,7 @@ look_at-looked-requires c =
 pub receive_to-requires : goal.receive_to-requires
 receive_to-requires c =
     let ((m, a), place) = c.requires in
-    let told = sees_there a place c.look_at-looked.ensures c.looked-1.given.1 in
+    let told = sees_there a place c.look_at-looked.ensures c.in-Receives.is in
     (a.long.tasks.rows, received_few a place _ told, own_long a)
 
 pub go_to-requires : goal.go_to-requires
@@ -36,18 +36,18 @@ go_to-requires c =
 pub returns-in-NotYet : goal.returns-in-NotYet
 returns-in-NotYet c m =
     let own = c.args.own.now in
-    acting own (λ a. wait_acts a c.requires.1 (sees_there a c.requires.1 c.look_at-looked.ensures c.enum_told-1.given.1))
+    acting own (λ a. wait_acts a c.requires.1 (sees_there a c.requires.1 c.look_at-looked.ensures c.in-NotYet.is))
 
 pub returns-in-Receives : goal.returns-in-Receives
 returns-in-Receives c m =
     let receive = c.receive_to in
-    acting receive.new.1.0 (λ a.
-    let told = sees_there a c.requires.1 c.look_at-looked.ensures c.looked-1.given.1 in
-    receive_acts a c.requires.1 _ told receive.new.0 receive.new.1.0 receive.ensures)
+    acting receive.new.own (λ a.
+    let told = sees_there a c.requires.1 c.look_at-looked.ensures c.in-Receives.is in
+    receive_acts a c.requires.1 _ told receive.new.rows receive.new.own receive.ensures)
 
 pub returns-in-Owns : goal.returns-in-Owns
 returns-in-Owns c m =
     let gone = c.go_to in
-    acting gone.new.0 (λ a.
-    let told = sees_there a c.requires.1 c.look_at-looked.ensures c.enum_told-in-Owns-1.given.1 in
-    own_acts a c.requires.1 told gone.new.0 gone.ensures)
+    acting gone.new.own (λ a.
+    let told = sees_there a c.requires.1 c.look_at-looked.ensures c.in-Owns.is in
+    own_acts a c.requires.1 told gone.new.own gone.ensures)

@@ -27,6 +27,6 @@ pub returns : goal.returns
 returns c m =
     let register = c.register in
     let waits = c.wait_at in
-    acting waits.new.0 (λ a.
-    register_acts a c.requires.1 register.new.1.0 register.ensures waits.new.0 waits.ensures.0
-    (waits.ensures.1 ∙ c.slot-slot.ensures.0))
+    acting waits.new.own (λ a.
+    register_acts a c.requires.1 register.new.registrations (register.ensures.registrations, register.ensures.lock) waits.new.own waits.ensures.gone
+    (waits.ensures.slot ∙ c.slot-slot.ensures.0))

@@ -18,6 +18,6 @@ returns c m =
     let (stand, mails, adds, last) = c.requires.stand_value in
     let taken = c.take_ticket-taken in
     let gone = c.go_to in
-    acting gone.new.0 (λ a.
+    acting gone.new.own (λ a.
     rw c.with_ends.ensures
-    (ticket_acts a c.requires.place_at_value.1 stand mails adds last taken.result taken.ensures gone.new.0 gone.ensures))
+    (ticket_acts a c.requires.place_at_value.1 stand mails adds last taken.result (taken.ensures.ends, taken.ensures.lock) gone.new.own gone.ensures))

@@ -17,9 +17,9 @@ pub returns-then-is_free : goal.returns-then-is_free
 returns-then-is_free c m =
     let taken = c.take_ticket-taken in
     let gone = c.go_to in
-    acting gone.new.0 (λ a.
+    acting gone.new.own (λ a.
     let free = frees a c.is_free.ensures c.if-is_free.true in
-    rw c.with_ends.ensures (win_acts a c.requires.1 free taken.result taken.ensures gone.new.0 gone.ensures))
+    rw c.with_ends.ensures (win_acts a c.requires.1 free taken.result (taken.ensures.ends, taken.ensures.lock) gone.new.own gone.ensures))
 
 pub go_to-requires-2 : goal.go_to-requires-2
 go_to-requires-2 c =
@@ -28,5 +28,5 @@ go_to-requires-2 c =
 pub returns : goal.returns
 returns c m =
     let gone = c.go_to-2 in
-    acting gone.new.0 (λ a.
-    fail_acts a c.requires.1 (frees a c.is_free.ensures c.if-is_free.false) gone.new.0 gone.ensures)
+    acting gone.new.own (λ a.
+    fail_acts a c.requires.1 (frees a c.is_free.ensures c.if-is_free.false) gone.new.own gone.ensures)

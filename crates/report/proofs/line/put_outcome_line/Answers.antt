@@ -34,4 +34,7 @@ returns c =
     let args = c.args in
     let at2 = short_next 1 (omega arith) c.put_field-next.ensures in
     let at3 = short_next 8 (outcome_short args.finished) c.put_outcome-next.ensures in
-    let last = wrote_last c.put_number.ensures.wrote refl in record { short = omega (arith, at2, at3, c.put_number-next.ensures.short, c.put_number.ensures.short); wrote = wrote_field c.put_field-next.ensures (wrote_field c.put_outcome-next.ensures (wrote_field c.put_number-next.ensures.wrote last)) }
+    let last = wrote_last c.put_number.ensures.wrote refl in record {
+      short = omega (arith, at2, at3, c.put_number-next.ensures.short, c.put_number.ensures.short);
+      wrote = wrote_field c.put_field-next.ensures (wrote_field c.put_outcome-next.ensures (wrote_field c.put_number-next.ensures.wrote last));
+    }

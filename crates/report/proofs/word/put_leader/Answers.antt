@@ -26,13 +26,13 @@ put_number-requires-in-Due c =
 pub returns-in-Nobody : goal.returns-in-Nobody
 unfolding bytes
 returns-in-Nobody c =
-    wrote_same c.put_field.ensures (ap leader_field c.enum_told-1.given.1)
+    wrote_same c.put_field.ensures (ap leader_field c.in-Nobody.is)
 
 pub returns-in-Owner : goal.returns-in-Owner
 returns-in-Owner c =
-    wrote_same c.put_number.ensures.wrote (ap leader_field c.leader-1.given.1)
+    wrote_same c.put_number.ensures.wrote (ap leader_field c.in-Owner.is)
 
 pub returns-in-Due : goal.returns-in-Due
 returns-in-Due c =
     wrote_same (wrote_marked _ c.put_number-in-Due.ensures.wrote c.put_bytes-next.ensures)
-    (ap leader_field c.leader-in-Due-1.given.1)
+    (ap leader_field c.in-Due.is)

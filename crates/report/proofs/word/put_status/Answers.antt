@@ -34,35 +34,54 @@ pub returns-in-0 : goal.returns-in-0
 unfolding bytes
 returns-in-0 c =
     let n = c.args.status in
-    let wrote = c.put_field.ensures in record { short = short_next 7 (omega arith) wrote; wrote = λ x e. wrote_same wrote (name_is x n e new c.in-0.keys1) }
+    let wrote = c.put_field.ensures in record {
+      short = short_next 7 (omega arith) wrote;
+      wrote = λ x e. wrote_same wrote (name_is x n e new c.in-0.is);
+    }
 
 pub returns-in-1 : goal.returns-in-1
 unfolding bytes
 returns-in-1 c =
     let n = c.args.status in
-    let wrote = c.put_field-in-1.ensures in record { short = short_next 7 (omega arith) wrote; wrote = λ x e. wrote_same wrote (name_is x n e waiting c.in-1.keys2) }
+    let wrote = c.put_field-in-1.ensures in record {
+      short = short_next 7 (omega arith) wrote;
+      wrote = λ x e. wrote_same wrote (name_is x n e waiting c.in-1.is);
+    }
 
 pub returns-in-2 : goal.returns-in-2
 unfolding bytes
 returns-in-2 c =
     let n = c.args.status in
-    let wrote = c.put_field-in-2.ensures in record { short = short_next 7 (omega arith) wrote; wrote = λ x e. wrote_same wrote (name_is x n e ready c.in-2.keys3) }
+    let wrote = c.put_field-in-2.ensures in record {
+      short = short_next 7 (omega arith) wrote;
+      wrote = λ x e. wrote_same wrote (name_is x n e ready c.in-2.is);
+    }
 
 pub returns-in-3 : goal.returns-in-3
 unfolding bytes
 returns-in-3 c =
     let n = c.args.status in
-    let wrote = c.put_field-in-3.ensures in record { short = short_next 7 (omega arith) wrote; wrote = λ x e. wrote_same wrote (name_is x n e held c.in-3.keys4) }
+    let wrote = c.put_field-in-3.ensures in record {
+      short = short_next 7 (omega arith) wrote;
+      wrote = λ x e. wrote_same wrote (name_is x n e held c.in-3.is);
+    }
 
 pub returns-in-4 : goal.returns-in-4
 unfolding bytes
 returns-in-4 c =
     let n = c.args.status in
-    let wrote = c.put_field-in-4.ensures in record { short = short_next 7 (omega arith) wrote; wrote = λ x e. wrote_same wrote (name_is x n e running c.in-4.keys5) }
+    let wrote = c.put_field-in-4.ensures in record {
+      short = short_next 7 (omega arith) wrote;
+      wrote = λ x e. wrote_same wrote (name_is x n e running c.in-4.is);
+    }
 
 pub returns-in_default : goal.returns-in_default
 unfolding bytes
 returns-in_default c =
     let n = c.args.status in
     let wrote = c.put_field-in_default.ensures in
-    let rest = c.in_default.rest in record { short = short_next 7 (omega arith) wrote; wrote = λ x e. wrote_same wrote (name_over x n e rest.0.0.0.0.1 rest.0.0.0.1 rest.0.0.1 rest.0.1 rest.1) }
+    record {
+      short = short_next 7 (omega arith) wrote;
+      wrote = λ x e.
+          wrote_same wrote (name_over x n e (omega arith) (omega arith) (omega arith) (omega arith) (omega arith));
+    }

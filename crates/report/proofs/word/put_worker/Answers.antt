@@ -12,7 +12,10 @@ put_field-requires c =
 pub returns-then-worker-eq0 : goal.returns-then-worker-eq0
 unfolding bytes
 returns-then-worker-eq0 c =
-    let wrote = c.put_field.ensures in record { short = short_next 20 (omega arith) wrote; wrote = λ o e. wrote_same wrote (worker_none o c.args.worker e c.if-worker-eq0.true) }
+    let wrote = c.put_field.ensures in record {
+      short = short_next 20 (omega arith) wrote;
+      wrote = λ o e. wrote_same wrote (worker_none o c.args.worker e c.if-worker-eq0.true);
+    }
 
 pub put_number-requires : goal.put_number-requires
 put_number-requires c =
@@ -21,4 +24,7 @@ put_number-requires c =
 pub returns : goal.returns
 returns c =
     let n = c.args.worker in
-    let put = c.put_number.ensures in record { short = put.short; wrote = λ o e. wrote_same put.wrote (worker_some o n e (omega arith)) }
+    let put = c.put_number.ensures in record {
+      short = put.short;
+      wrote = λ o e. wrote_same put.wrote (worker_some o n e (omega arith));
+    }

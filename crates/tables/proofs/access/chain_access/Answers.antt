@@ -11,7 +11,7 @@ pub follow-requires : goal.follow-requires
 follow-requires c =
     let low = last_low (at_address c.args.accesses.now c.args.address) c.args.a in
     let previous = c.previous-before in
-    (c.lay_access.auto.0 ∙ c.requires.0, omega (arith, low, previous.ensures, c.requires))
+    (c.lay_access.auto.rows ∙ c.requires.0, omega (arith, low, previous.ensures, c.requires))
 
 pub returns : goal.returns
 returns c =
@@ -19,5 +19,5 @@ returns c =
     let previous = c.previous-before in
     let row = c.lay_access in
     let follow = c.follow in
-    laid_access a.accesses.now row.new.0 follow.new.0 a.a a.task a.reads a.address a.total previous.result
+    laid_access a.accesses.now row.new.rows follow.new.accesses a.a a.task a.reads a.address a.total previous.result
     c.requires.0 c.requires.1 previous.ensures row.ensures follow.ensures

@@ -1,5 +1,5 @@
 use native.Mathlib.Omega.{arith}
-use Prim.Native.Nat.{suc, ◌+◌, ◌-◌}
+use Prim.Native.Nat.{suc, ◌+◌}
 use mathlib.Core.Path.{◌≡◌, sym, ◌∙◌}
 use Rattle.tables.proofs.Plans.{one_access}
 use Rattle.tables.proofs.access.lay_accesses.Goals as goal
@@ -13,11 +13,11 @@ loop-k-preserved c =
     let a = c.args in
     let x = c.loop-k in
     let chained = c.chain_access in
-    let reads = c.before.before.before.Reads-of in
+    let reads = c.reads_of in
     let touch = c.touch_at-touch in
     let more : a.at + (x.k + 1) ≡ suc (a.at + x.k) = omega arith in (
       omega arith,
-      chained.auto.0 ∙ x.invariant.1,
+      chained.auto.accesses ∙ x.invariant.1,
       λ ts start e h l.
           let access =
           one_access ts a.task a.at a.n x.k a.plan.now touch.result touch.ensures h c.loop-k-test.true in

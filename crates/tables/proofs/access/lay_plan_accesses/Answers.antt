@@ -1,5 +1,4 @@
 use native.Mathlib.Omega.{arith}
-use Prim.Native.Nat.{◌-◌}
 use mathlib.Core.Path.{sym, ◌∙◌}
 use Rattle.tables.proofs.Plans.{task_low, row_few}
 use Rattle.tables.proofs.Accesses.{accesses_begin, accesses_laid, accesses_end}
@@ -46,10 +45,10 @@ loop-i-preserved c =
     let few = row_few c.args.plan.now c.args.count c.requires.readable x.i c.loop-i-test.true row.result row.ensures in (
       omega arith,
       omega (arith, x.invariant.1, few),
-      laid.auto.0 ∙ x.invariant.2,
+      laid.auto.accesses ∙ x.invariant.2,
       λ text p e size has q.
           accesses_laid text p e c.args.count size c.args.plan.now has c.args.accesses.now x.i x.at c.args.total
-          row.result x.accesses laid.new.0 c.loop-i-test.true row.ensures q laid.ensures
+          row.result x.accesses laid.new.accesses c.loop-i-test.true row.ensures q laid.ensures
           (x.invariant.3 text p e size has q),
     )
 

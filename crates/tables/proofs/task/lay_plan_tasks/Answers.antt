@@ -1,5 +1,4 @@
 use native.Mathlib.Omega.{arith}
-use Prim.Native.Nat.{◌-◌}
 use mathlib.Core.Path.{sym, ◌∙◌}
 use Rattle.tables.proofs.Plans.{task_low, row_few}
 use Rattle.tables.proofs.Tasks.{tasks_begin, task_laid, tasks_end}
@@ -56,11 +55,11 @@ loop-i-preserved c =
     let few = row_few c.args.plan.now c.args.count c.requires.readable x.i c.loop-i-test.true row.result row.ensures in (
       omega arith,
       omega (arith, x.invariant.1, few),
-      task.auto.0 ∙ x.invariant.2,
-      label.auto.0 ∙ x.invariant.3,
+      task.auto.rows ∙ x.invariant.2,
+      label.auto.rows ∙ x.invariant.3,
       λ text p e size has.
           task_laid text p e c.args.count size c.args.plan.now has c.args.tasks.now c.args.labels.now x.i
-          x.total row.result x.tasks x.labels task.new.0 label.new.0 taken row.ensures
+          x.total row.result x.tasks x.labels task.new.rows label.new.rows taken row.ensures
           (omega (arith, x.invariant.2, low)) (omega (arith, x.invariant.3, low)) task.ensures label.ensures (x.invariant.4 text p e size has),
     )
 
