@@ -10,7 +10,10 @@ pub returns-in-First : goal.returns-in-First
 unfolding bytes
 returns-in-First c =
     let line = wrote_field c.put_field-next.ensures (wrote_last c.put_number.ensures.wrote refl) in
-    let short = short_next 1 (omega arith) c.put_field-next.ensures in record { short = omega (arith, c.put_number.ensures.short, short); wrote = wrote_form _ _ _ _ c.enum_told-1.given.1 line }
+    let short = short_next 1 (omega arith) c.put_field-next.ensures in record {
+      short = omega (arith, c.put_number.ensures.short, short);
+      wrote = wrote_form _ _ _ _ c.in-First.is line;
+    }
 
 pub returns-in-Second : goal.returns-in-Second
 unfolding bytes
@@ -24,5 +27,5 @@ returns-in-Second c =
         c.put_number-next.ensures.short,
         short_next 1 (omega arith) c.put_field-next.ensures,
       );
-      wrote = wrote_form _ _ _ _ c.form-1.given.1 line;
+      wrote = wrote_form _ _ _ _ c.in-Second.is line;
     }

@@ -10,86 +10,57 @@ use Rattle.orders.proofs.Playing.{goes_start, able_formed, able_fits, able_count
 use Rattle.orders.proofs.Playing.{comes_full, comes_finished, goes_pick}
 use Rattle.orders.proofs.play_line.Goals as goal
 
--- places of the code, from a later one back to an earlier one
-abbrev begun : goal.At-loop-n → goal.Start
-begun c = c.before.before.before.before.before.before.before.before.before
-
-abbrev looped : goal.After-is_finished → goal.At-loop-n
-looped c = c.before.before.before
-
-abbrev tested : goal.After-draw-drawn → goal.After-is_finished
-tested c = c.before.before
-
-abbrev drawn : goal.After-pick-n → goal.After-draw-drawn
-drawn c = c.before.before.before.before.before.before.before.before.before.before
-
-abbrev pick-over : goal.After-slice_known-in-loop-n-8-1 → goal.After-pick-n
-pick-over c =
-    c.before.before.before.before.before.before.before.before.before.before.before.before.before.before.before.before
-
--- the memory at the head of the loop
-abbrev held : goal.At-loop-n → Memory
-held c =
-    let x = c.loop-n in
-    memory x.n x.wait x.registrations x.tickets x.cells x.device x.rows x.accesses
-
--- the state there, from which the rest of the line can be played
-able : (c : goal.At-loop-n) → LineAble (begun c).args.end c.loop-n.line (held c) c.loop-n.store
-able c = still_able c.loop-n.invariant (begun c).requires
-
--- whether it is finished
-tells : (c : goal.After-is_finished) (k : Setup) (s : State)
-    → Holds k (held (looped c)) (share (looped c).loop.store) s → c.is_finished.result ≡ finished k s
-tells c k s h = c.is_finished.ensures.meaning (held (looped c)) k s (share (looped c).loop.store) h
-
 pub loop-n-init : goal.loop-n-init
-loop-n-init c =
-    goes_start
+loop-n-init c = goes_start
 
 pub returns-then-is_finished : goal.returns-then-is_finished
 returns-then-is_finished c =
-    comes_finished (looped c.before).loop.inv (λ k s h. sym c.if-is_finished.true ∙ tells c.before k s h)
+    let x = c.loop-n in
+    let m = memory x.n x.wait x.registrations x.tickets x.cells x.device x.rows x.accesses in
+    let comes = comes_finished x.invariant (λ k s h. sym c.if-is_finished.true ∙ c.is_finished.ensures.meaning m k s (share x.store) h) in
+    record { held = comes.0; later = comes.1 }
 
 pub draw-drawn-requires : goal.draw-drawn-requires
-draw-drawn-requires c =
-    able_formed (able (looped c.before))
+draw-drawn-requires c = able_formed (still_able c.loop-n.invariant c.requires)
 
 pub pick-n-requires : goal.pick-n-requires
 pick-n-requires c =
-    let f = tested c.before.before.before.before.before.before.before.before.before in
-    let a = able (looped f) in record { shares_size_in_bounds = a.room; long = (a.c, a.s, a.long, a.holds, able_fits a f.before.if1.taken c.draw-drawn.result c.draw-drawn.ensures) }
+    let a = still_able c.loop-n.invariant c.requires in
+    record {
+      shares_size_in_bounds = a.room;
+      long = (a.c, a.s, a.long, a.holds, able_fits a c.loop-n-test.true c.draw-drawn.result c.draw-drawn.ensures);
+    }
 
 pub loop-n-smaller : goal.loop-n-smaller
 loop-n-smaller c =
-    let p = pick-over c in
-    let d = drawn p in
-    let f = tested d in
-    let a = able (looped f) in
-    let below = f.before.if1.taken in
-    let fit = able_fits a below d.draw.result d.draw.ensures in
-    omega (arith, able_counts a below d.draw.result d.draw.ensures (p.pick.ensures.0 a.c a.s a.holds fit))
+    let a = still_able c.loop-n.invariant c.requires in
+    let below = c.loop-n-test.true in
+    let d = c.draw-drawn in
+    let fit = able_fits a below d.result d.ensures in
+    omega (arith, able_counts a below d.result d.ensures (c.pick-n.ensures.held a.c a.s a.holds fit))
 
 pub loop-n-preserved : goal.loop-n-preserved
 loop-n-preserved c =
-    let p = pick-over c in
-    let k = p.pick.kept.1 in
-    let d = drawn p in
-    let f = tested d in
-    goes_pick (looped f).loop.inv f.before.if1.taken (λ k s h. sym d.before.if2.left ∙ tells f k s h)
-    d.draw.result d.draw.ensures
+    let x = c.loop-n in
+    let m = memory x.n x.wait x.registrations x.tickets x.cells x.device x.rows x.accesses in
+    let k = c.pick-n.auto in
+    goes_pick x.invariant c.loop-n-test.true
+    (λ k s h. sym c.if-is_finished.false ∙ c.is_finished.ensures.meaning m k s (share x.store) h)
+    c.draw-drawn.result c.draw-drawn.ensures
     (record {
-      wait = k.0;
-      registrations = k.1.0;
-      tickets = k.1.1.0;
-      cells = k.1.1.1.0;
-      device = k.1.1.1.1.0;
-      rows = k.1.1.1.1.1.0;
-      accesses = k.1.1.1.1.1.1.0;
-      size = k.1.1.1.1.1.1.1.0;
-      later = p.pick.ensures.1;
+      wait = k.wait;
+      registrations = k.registrations;
+      tickets = k.tickets;
+      cells = k.cells;
+      device = k.device;
+      rows = k.rows;
+      accesses = k.accesses;
+      size = k.store;
+      later = c.pick-n.ensures.later;
     })
-    p.pick.ensures.0
+    c.pick-n.ensures.held
 
 pub returns : goal.returns
 returns c =
-    comes_full c.loop-n.invariant c.loop-n-test.false
+    let comes = comes_full c.loop-n.invariant c.loop-n-test.false in
+    record { held = comes.0; later = comes.1 }
