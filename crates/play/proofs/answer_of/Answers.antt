@@ -15,30 +15,6 @@ use Rattle.report.specs.Totals.{masks_fit}
 use Rattle.play.proofs.Answering.{from, from_long, masks_are, shown, few_tasks, too_short, long_enough}
 use Rattle.play.proofs.answer_of.Goals as goal
 
--- from the summary back to the beginning, and what the numbers show there
-abbrev begun : goal.After-summary_of-summary → goal.Start
-begun at = at.before.before.before.before.before.before.before.before.before.before.before
-
-asks : (at : goal.After-summary_of-summary)
-    → let args = (begun at).args in
-    let sum = at.summary_of-summary.result in
-    ((length args.rows.now ≡ layout.task_rows) × (length args.labels.now ≡ layout.label_rows)
-    × (layout.most_tasks ≤ length (from GIVERS args.device.now)) × (sum.tasks ≤ layout.most_tasks))
-    × ((d : Setup) × (s : State) × Small d s
-    × Shown d s sum args.rows.now args.labels.now (from GIVERS args.device.now) args.text.now)
-asks at =
-    let sum = at.summary_of-summary in
-    let start = begun at in
-    let args = start.args in
-    let (m, d, s, sized, small, labels, holds) = start.pre.1 in
-    let few = few_tasks args.n args.store.now args.wait.now args.tickets.now args.cells.now args.device.now
-    sum.result sum.ensures m d s args.rows.now args.text.now args.labels.now sized labels holds in
-    let is = shown args.n args.store.now args.wait.now args.tickets.now args.cells.now args.device.now
-    sum.result sum.ensures m d s args.rows.now args.text.now args.labels.now sized labels holds in (
-      (start.pre.0.5, start.pre.0.6, omega (arith, start.pre.0.4, from_long GIVERS args.device.now), few),
-      (d, s, small, is),
-    )
-
 pub summary_of-summary-requires : goal.summary_of-summary-requires
 summary_of-summary-requires c =
     let device = c.args.device.now in
@@ -62,32 +38,50 @@ summary_of-summary-requires c =
 
 pub has_room-requires : goal.has_room-requires
 has_room-requires c =
-    asks c.before
+    let sum = c.summary_of-summary in
+    let args = c.args in
+    let sizes = c.requires.shares_size_in_bounds in
+    let (m, d, s, sized, small, labels, holds) = c.requires.sized in
+    let few = few_tasks args.n args.store.now args.wait.now args.tickets.now args.cells.now args.device.now
+    sum.result (sum.ensures.numbers, sum.ensures.found) m d s args.rows.now args.text.now args.labels.now sized labels holds in
+    let is = shown args.n args.store.now args.wait.now args.tickets.now args.cells.now args.device.now
+    sum.result (sum.ensures.numbers, sum.ensures.found) m d s args.rows.now args.text.now args.labels.now sized labels holds in
+    let long : layout.most_tasks ≤ length (from GIVERS args.device.now) = omega (arith, sizes.4, from_long GIVERS args.device.now) in
+    record { rows_len = (sizes.5, sizes.6, long, few); small = (d, s, small, is) }
 
 pub put_report-length-requires : goal.put_report-length-requires
 put_report-length-requires c =
-    let (lengths, (d, s, small, is)) = asks c.before.before.before.before in record { tasks_len = lengths; shown = (d, s, is) }
+    let sum = c.summary_of-summary in
+    let args = c.args in
+    let sizes = c.requires.shares_size_in_bounds in
+    let (m, d, s, sized, small, labels, holds) = c.requires.sized in
+    let few = few_tasks args.n args.store.now args.wait.now args.tickets.now args.cells.now args.device.now
+    sum.result (sum.ensures.numbers, sum.ensures.found) m d s args.rows.now args.text.now args.labels.now sized labels holds in
+    let is = shown args.n args.store.now args.wait.now args.tickets.now args.cells.now args.device.now
+    sum.result (sum.ensures.numbers, sum.ensures.found) m d s args.rows.now args.text.now args.labels.now sized labels holds in
+    let long : layout.most_tasks ≤ length (from GIVERS args.device.now) = omega (arith, sizes.4, from_long GIVERS args.device.now) in
+    record { tasks_len = (sizes.5, sizes.6, long, few); shown = (d, s, is) }
 
 pub returns-then-has_room : goal.returns-then-has_room
 returns-then-has_room c m d s left sized small labels holds =
     let sum = c.summary_of-summary in
-    let args = (begun c.before.before.before.before.before.before.before).args in
+    let args = c.args in
     let is = shown args.n args.store.now args.wait.now args.tickets.now args.cells.now args.device.now
-    sum.result sum.ensures m d s args.rows.now args.text.now args.labels.now sized labels holds in
+    sum.result (sum.ensures.numbers, sum.ensures.found) m d s args.rows.now args.text.now args.labels.now sized labels holds in
     let put = c.put_report-length.ensures d s is in
     let enough : length (report d s) ≤ length args.output.now =
     leb-true _ _ (sym (c.has_room.ensures d s small is) ∙ c.if-has_room.true) in
     long_enough args.n args.store.now args.wait.now args.tickets.now args.cells.now args.device.now
-    sum.result sum.ensures m d s args.rows.now args.text.now args.labels.now sized labels holds
+    sum.result (sum.ensures.numbers, sum.ensures.found) m d s args.rows.now args.text.now args.labels.now sized labels holds
     left args.output.now _ _ enough (told_length put) (wrote_whole put enough)
 
 pub returns : goal.returns
 returns c m d s left sized small labels holds =
     let sum = c.summary_of-summary in
-    let args = (begun c.before.before.before).args in
+    let args = c.args in
     let is = shown args.n args.store.now args.wait.now args.tickets.now args.cells.now args.device.now
-    sum.result sum.ensures m d s args.rows.now args.text.now args.labels.now sized labels holds in
+    sum.result (sum.ensures.numbers, sum.ensures.found) m d s args.rows.now args.text.now args.labels.now sized labels holds in
     too_short args.n args.store.now args.wait.now args.tickets.now args.cells.now args.device.now
-    sum.result sum.ensures m d s args.rows.now args.text.now args.labels.now sized labels holds
+    sum.result (sum.ensures.numbers, sum.ensures.found) m d s args.rows.now args.text.now args.labels.now sized labels holds
     left args.output.now
     (leb-false _ _ (sym (c.has_room.ensures d s small is) ∙ c.if-has_room.false))

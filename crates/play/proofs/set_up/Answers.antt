@@ -32,19 +32,7 @@ start-ends-requires c =
 pub shape_of-device : goal.shape_of-device
 shape_of-device c =
     let device = c.args.device.now in
-    same_len_mid MASKS (length device - MASKS) device c.lay_masks.new.1.1.1.0 c.lay_masks.auto.1.1.1.0
-
-pub shape_of-rows : goal.shape_of-rows
-shape_of-rows c =
-    c.lay_out.auto.1.1.0
-
-pub shape_of-accesses : goal.shape_of-accesses
-shape_of-accesses c =
-    c.lay_out.auto.1.1.1.0
-
-pub shape_of-labels : goal.shape_of-labels
-shape_of-labels c =
-    c.lay_out.auto.1.1.1.1.0
+    same_len_mid MASKS (length device - MASKS) device c.lay_masks.new.masks c.lay_masks.auto.masks
 
 pub returns : goal.returns
 returns c text p store e says long zeros ungiven =
@@ -55,9 +43,9 @@ returns c text p store e says long zeros ungiven =
     let slots = c.slots_of-slots.ensures ∙ ap slots_of says.form in
     let capacity = c.capacity_of-capacity.ensures ∙ ap capacity_of says.form in
     let device = c.args.device.now in
-    let room = c.lay_masks.auto.1.1.1.0 ∙ from_long MASKS device in
+    let room = c.lay_masks.auto.masks ∙ from_long MASKS device in
     let tasks = (accepted_well_formed text p e).tasks_few in
-    let back = c.lay_masks.new.1.1.1.0 in
+    let back = c.lay_masks.new.masks in
     let givers = still_ungiven device back c.requires.device_len.0 (length p.tasks) tasks ungiven in
     let masks = laid_masks device back c.requires.device_len.0 p.workers p.tasks _ (omega (arith, room, c.requires.device_len.0, tasks))
     (rw says.count at masked) in (

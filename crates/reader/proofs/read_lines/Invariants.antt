@@ -14,14 +14,16 @@ use Rattle.reader.proofs.read_lines.Given as goal
 abbrev pub invariant-loop-more : goal.invariant-loop-more
 invariant-loop-more l =
     (length l.row ≡ task_row) × (l.at ≤ length l.text) × (l.looks ≡ l.at)
-    × ((begin : ℕ) (p : Plan) → InLine l.text begin p l.line l.initial.at l.initial.more l.initial.accesses l.initial.row → InLine l.text begin p l.line l.at l.more l.accesses l.row)
+    × ((begin : ℕ) (p : Plan) → InLine l.text begin p l.line l.initial.at l.initial.more l.initial.accesses l.initial.row
+    → InLine l.text begin p l.line l.at l.more l.accesses l.row)
 
 abbrev pub decreases-loop-more : goal.decreases-loop-more
 decreases-loop-more l = length l.text - l.at
 
 abbrev pub invariant-lines : goal.invariant-lines
 invariant-lines l =
-    (length l.row ≡ task_row) × (l.fault ≡ Nothing) × AtLine l.text (lent l.initial.rows l.initial.orders) l.sofar l.number l.looks (lent l.rows l.orders)
+    (length l.row ≡ task_row) × (l.fault ≡ Nothing)
+    × AtLine l.text (lent l.initial.rows l.initial.orders) l.sofar l.number l.looks (lent l.rows l.orders)
 
 abbrev pub decreases-lines : goal.decreases-lines
 decreases-lines l = length l.text - l.looks

@@ -15,7 +15,8 @@ invariant-loop-at l =
     (length l.out ≡ length l.initial.out)
     × (l.initial.at ≤ l.at)
     × (l.end + number_size * l.initial.at ≤ l.initial.end + number_size * l.at)
-    × ((xs : List ℕ) → Leads l.nexts l.n l.initial.at xs → Going l.nexts l.n (λ after last. Wrote l.initial.out l.initial.end (left xs) last after) l.out l.at l.end)
+    × ((xs : List ℕ) → Leads l.nexts l.n l.initial.at xs
+    → Going l.nexts l.n (λ after last. Wrote l.initial.out l.initial.end (left xs) last after) l.out l.at l.end)
 
 abbrev pub decreases-loop-at : goal.decreases-loop-at
 decreases-loop-at l = l.n - l.at

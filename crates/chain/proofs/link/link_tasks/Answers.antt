@@ -80,4 +80,5 @@ shape_of-nexts c =
 pub returns : goal.returns
 returns c =
     let turn = c.loop-i in
-    let z : turn.i ≡ 0 = omega (arith, c.loop-i-test.false) in record { sizes = (turn.invariant.0, turn.invariant.1); known = λ ts kept. rw z at (turn.invariant.3 ts kept) }
+    let z : turn.i ≡ 0 = omega (arith, c.loop-i-test.false) in
+    record { sizes = (turn.invariant.0, turn.invariant.1); known = λ ts kept. rw z at (turn.invariant.3 ts kept) }

@@ -16,7 +16,9 @@ other address a = not (eqb a.address address)
 
 abbrev pub invariant-loop-k : goal.invariant-loop-k
 invariant-loop-k l =
-    (l.k ≤ l.n) × ((t : Placed) (xs : List Access) → length xs ≡ l.n → l.row ≡ row_of (with_accesses t xs) → every (other l.address) (take l.k xs) ≡ true)
+    (l.k ≤ l.n)
+    × ((t : Placed) (xs : List Access) → length xs ≡ l.n → l.row ≡ row_of (with_accesses t xs)
+    → every (other l.address) (take l.k xs) ≡ true)
 
 abbrev pub decreases-loop-k : goal.decreases-loop-k
 decreases-loop-k l = l.n - l.k

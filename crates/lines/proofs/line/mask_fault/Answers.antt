@@ -18,7 +18,8 @@ use Rattle.lines.proofs.Wholes.{first_of, third_fault, mask_range, some_bit}
 use Rattle.lines.proofs.line.mask_fault.Goals as goal
 
 -- the line's fault, by that of its place and its range
-judged : (mask workers : ℕ) (misplaced : Bool) (fault : Fault) → workers ≤ 32 → fault ≡ first_fault misplaced (leb ((1 * 2 ^ workers) % (2 ^ 64)) mask)
+judged : (mask workers : ℕ) (misplaced : Bool) (fault : Fault) → workers ≤ 32
+    → fault ≡ first_fault misplaced (leb ((1 * 2 ^ workers) % (2 ^ 64)) mask)
     → (p : Plan) (m : ℕ) → workers ≡ p.workers → mask ≡ clipped m → misplaced ≡ not (after_task p)
     → (last : Fault) → last ≡ fault_of (first_refusal (ask (ltb 0 mask) EmptyMask ∷ []))
     → first_of fault last ≡ fault_in (mask_line p m)
