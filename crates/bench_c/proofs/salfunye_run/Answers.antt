@@ -12,10 +12,14 @@ left e = (ap (λ (o : Outcome). o.store) e, ap (λ (o : Outcome). o.output) e)
 pub returns-in-Reports : goal.returns-in-Reports
 returns-in-Reports c =
     let ran = c.run-answer.ensures.outcome in
-    (ap ran_numbers (sym c.answer-1.given.1 ∙ ap (λ (o : Outcome). o.answer) ran), left ran)
+    record {
+      answer = ap ran_numbers (sym c.in-Reports.is ∙ ap (λ (o : Outcome). o.answer) ran);
+      store = (left ran).0;
+      output = (left ran).1;
+    }
 
 pub returns-in-Refuses : goal.returns-in-Refuses
 returns-in-Refuses c =
     let ran = c.run-answer.ensures.outcome in
-    let told = ap ran_numbers (sym c.answer-in-Refuses-1.given.1 ∙ ap (λ (o : Outcome). o.answer) ran) in
-    (rw c.number_of.ensures told, left ran)
+    let told = ap ran_numbers (sym c.in-Refuses.is ∙ ap (λ (o : Outcome). o.answer) ran) in
+    record { answer = rw c.number_of.ensures told; store = (left ran).0; output = (left ran).1 }

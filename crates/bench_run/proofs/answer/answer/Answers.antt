@@ -4,10 +4,12 @@ use Rattle.bench_run.proofs.answer.answer.Goals as goal
 
 pub returns-in-Reports : goal.returns-in-Reports
 returns-in-Reports c =
-    reports c.args.store.now c.args.output.now c.args.text.now c.requires.0 c.requires.1 _ _ _
-    c.run-ran.ensures.outcome _ _ c.ran-1.given.1
+    let whole = reports c.args.store.now c.args.output.now c.args.text.now c.requires.0 c.requires.1 _ _ _
+    c.run-ran.ensures.outcome _ _ c.in-Reports.is in
+    record { store = whole.0; length = whole.1.0; bytes = whole.1.1.0; later = whole.1.1.1 }
 
 pub returns-in-Refuses : goal.returns-in-Refuses
 returns-in-Refuses c =
-    refuses c.args.store.now c.args.output.now c.args.text.now c.requires.0 c.requires.1 _ _ _
-    c.run-ran.ensures.outcome _ _ c.ran-in-Refuses-1.given.1 _ _ c.put_refusal.ensures.0 c.put_refusal.ensures.1
+    let whole = refuses c.args.store.now c.args.output.now c.args.text.now c.requires.0 c.requires.1 _ _ _
+    c.run-ran.ensures.outcome _ _ c.in-Refuses.is _ _ c.put_refusal.ensures.0 c.put_refusal.ensures.1 in
+    record { store = whole.0; length = whole.1.0; bytes = whole.1.1.0; later = whole.1.1.1 }
