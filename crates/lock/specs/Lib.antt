@@ -1,7 +1,6 @@
 pub mod Lock
 pub mod History
-mod Inside
-pub mod Promise
+pub mod Inside
 pub mod Arrays
 pub mod Answers
 pub mod Played

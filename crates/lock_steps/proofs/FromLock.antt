@@ -8,7 +8,7 @@ use mathlib.Core.Option.{none}
 use lib.ListN.{set}
 use Rattle.lock.specs.Lock as L
 use Rattle.lock.specs.History as LH
-use Rattle.lock.specs.Promise as Promise
+use Rattle.lock.proofs.Promise as Promise
 use Rattle.lock.specs.Arrays.{lock_of}
 use Rattle.lock.specs.Answers.{seen, waiter, told}
 use Rattle.lock.specs.declared.Ends.{Ends}

@@ -10,7 +10,7 @@ use Rattle.runs.specs.Picks as Picks
 use Rattle.runs.specs.Picks.{Picks, run, run_append}
 use Rattle.lock.specs.Lock as L
 use Rattle.lock.specs.History as LH
-use Rattle.lock.specs.Promise as Lock
+use Rattle.lock.proofs.Promise as Lock
 use Rattle.machine.specs.declared.Leader.TheVariants.{Nobody, Owner, Due}
 use Rattle.machine.specs.State.{Setup, Place, registering, looking, State, picked}
 use Rattle.machine.specs.Event.{owns, registers, seeing, standing_at, event}

@@ -7,7 +7,7 @@ use mathlib.Core.List.{List, [], ◌∷◌}
 use Rattle.std.proofs.Math.Option.{Option, none, some}
 use Rattle.runs.specs.Counts.{count}
 use Rattle.lock.specs.Lock as L
-use Rattle.lock.specs.Promise as Lock
+use Rattle.lock.proofs.Promise as Lock
 use Rattle.plan.specs.Accepted.{MaskFormed}
 use Rattle.tasks.specs.Accesses.{task_at}
 use Rattle.tasks.specs.History.{Duty}

@@ -26,7 +26,7 @@ use Rattle.runs.specs.Update.{order, upd}
 use Rattle.runs.specs.Traces.{tally_at}
 use Rattle.runs.specs.Picks.{Picks, picks_take, run, run_append, run_drop}
 use Rattle.lock.specs.History.{Owner}
-use Rattle.lock.specs.Promise as Lock
+use Rattle.lock.proofs.Promise as Lock
 use Rattle.plan.specs.Chains.{conflict}
 use Rattle.tasks.specs.Accesses.{task_at}
 use Rattle.tasks.specs.Tasks.{linking, ready, held, running, over, Creation, opening, Created, is_ready, is_held, is_running, past_waiting, is_received}

@@ -4,7 +4,7 @@ use Rattle.std.proofs.Common.{◌∙◌, inl, inr, ⊎_elim, arith, length-take,
 use Rattle.std.proofs.Math.ListN.{get_or-eq_default}
 use Rattle.runs.specs.Update.{order}
 use Rattle.runs.specs.Picks.{Picks, Regular}
-use Rattle.lock.specs.Promise as Lock
+use Rattle.lock.proofs.Promise as Lock
 use Rattle.plan.specs.Plan.{slots_of, Plan}
 use Rattle.plan.specs.Reading.{accepted, reading}
 use Rattle.plan.specs.Orders.{picks_of_all, OnlyRounds, picks_up_to}

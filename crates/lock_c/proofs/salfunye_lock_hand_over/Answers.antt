@@ -3,7 +3,7 @@ use mathlib.Core.Path.{refl, ap, ◌∙◌}
 use mathlib.Core.List.{[]}
 use native.Mathlib.Omega.{arith}
 use Rattle.lock.specs.Lock.{Told}
-use Rattle.lock.specs.Promise.{told_by}
+use Rattle.lock.proofs.Promise.{told_by}
 use Rattle.lock_c.specs.Answered.{accepted, refused}
 use borrow.Author.Rules.{rules}
 use Rattle.lock_c.proofs.salfunye_lock_hand_over.Goals as goal

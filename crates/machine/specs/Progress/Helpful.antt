@@ -5,7 +5,7 @@ use Rattle.runs.specs.Update.{same, order, clash}
 use Rattle.runs.specs.Counts.{count}
 use Rattle.lock.specs.Lock as L
 use Rattle.lock.specs.History as H
-use Rattle.lock.specs.Promise as Promise
+use Rattle.lock.proofs.Promise as Promise
 use Rattle.tasks.specs.Tasks as T
 use Rattle.tasks.specs.Tasks.{Message, Creation, opening, linking}
 use Rattle.machine.specs.State.{Setup, for_serving, for_adding, Place, idle, trying, registering, looking, draining, serving, handing, leaving, State}

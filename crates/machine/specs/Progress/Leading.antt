@@ -5,7 +5,7 @@ use Rattle.std.proofs.Common.{arith, sym, ap, ◌∙◌, inl, inr}
 use Rattle.std.proofs.Math.Option.{Option}
 use Rattle.runs.specs.Update.{upd_other}
 use Rattle.lock.specs.History as H
-use Rattle.lock.specs.Promise as Promise
+use Rattle.lock.proofs.Promise as Promise
 use Rattle.machine.specs.State.{Setup, Place, State}
 use Rattle.machine.specs.Event.{Event}
 use Rattle.machine.specs.Step.{effect, lock_after, apply}

@@ -6,7 +6,7 @@ use Rattle.runs.specs.Update.{same, order, upd, upd_same, clash}
 use Rattle.runs.specs.Fair.{Turn, nearer, waits}
 use Rattle.lock.specs.Lock as L
 use Rattle.lock.specs.History as H
-use Rattle.lock.specs.Promise as Promise
+use Rattle.lock.proofs.Promise as Promise
 use Rattle.machine.specs.State.{Setup, Purpose, for_serving, for_adding, Place, idle, trying, registering, looking, draining, serving, handing, leaving, State}
 use Rattle.machine.specs.Event.{Event, tries_and_owns, takes_ticket, registers, owns, hands_over, may, handed_by}
 use Rattle.machine.specs.Ready.{none_chosen}

@@ -5,7 +5,7 @@ use Rattle.runs.specs.Update.{order, clash}
 use Rattle.runs.specs.Sums.{sum, pos_sum, le_sum, sum_zeros}
 use Rattle.runs.specs.Counts.{count, count_nil}
 use Rattle.lock.specs.History as H
-use Rattle.lock.specs.Promise as Promise
+use Rattle.lock.proofs.Promise as Promise
 use Rattle.plan.specs.Permits.{any_masked}
 use Rattle.tasks.specs.Tasks as T
 use Rattle.tasks.specs.Tasks.{Message, Status, ready, held, running, over, Creation, opening, linking, is_ready, is_held, is_running, in_hand, to_add}

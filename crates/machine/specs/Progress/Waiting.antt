@@ -10,7 +10,7 @@ use Rattle.runs.specs.Picks.{Picks, Regular, Within}
 use Rattle.runs.specs.Fair.{Turn, reaches, nearer, waits, fair_to}
 use Rattle.lock.specs.Lock as L
 use Rattle.lock.specs.History as H
-use Rattle.lock.specs.Promise as Promise
+use Rattle.lock.proofs.Promise as Promise
 use Rattle.tasks.specs.Accesses.{task_at}
 use Rattle.tasks.specs.Tasks as T
 use Rattle.machine.specs.State.{Setup, Purpose, for_serving, for_adding, Place, idle, trying, registering, looking, draining, serving, handing, leaving, State, picked}

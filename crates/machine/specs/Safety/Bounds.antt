@@ -3,7 +3,7 @@ use Rattle.std.specs.Prelude.{ℕ, suc, ◌+◌, ◌≤◌, ◌<◌, [], ◌∷�
 use Rattle.std.proofs.Common.{arith, length-append}
 use Rattle.runs.specs.Counts.{count}
 use Rattle.runs.specs.Update.{upd_all}
-use Rattle.lock.specs.Promise as Lock
+use Rattle.lock.proofs.Promise as Lock
 use Rattle.tasks.specs.Accesses.{task_at}
 use Rattle.tasks.specs.Playing as P
 use Rattle.tasks.specs.Promise as Promise

@@ -4,8 +4,8 @@ use Rattle.std.proofs.Common.{arith, sym, ap, ◌∙◌, inl, inr, ⊎_elim}
 use Rattle.runs.specs.Update.{upd, upd_other, same, clash}
 use Rattle.lock.specs.Lock as L
 use Rattle.lock.specs.History as LH
-use Rattle.lock.specs.Promise as Lock
-use Rattle.lock.specs.Promise.{Kept, Leader, nobody, called, owner}
+use Rattle.lock.proofs.Promise as Lock
+use Rattle.lock.proofs.Promise.{Kept, Leader, nobody, called, owner}
 use Rattle.machine.specs.Whereabouts.{wins, is_due}
 
 -- worker w holds ticket t, registered or not; its turn has come, and the worker's cell doesn't hold it

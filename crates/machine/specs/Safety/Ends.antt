@@ -4,7 +4,7 @@ use Rattle.std.proofs.Common.{arith}
 use Rattle.std.proofs.Math.Option.{Option, none, some}
 use Rattle.lock.specs.Lock as L
 use Rattle.lock.specs.History as H
-use Rattle.lock.specs.Promise as Promise
+use Rattle.lock.proofs.Promise as Promise
 use Rattle.machine.specs.State.{Setup, State}
 use Rattle.machine.specs.Event.{Event, event}
 use Rattle.machine.specs.Step.{apply, lock_op, lock_after, step}

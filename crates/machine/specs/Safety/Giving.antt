@@ -11,7 +11,7 @@ use Rattle.runs.specs.Picks.{Picks}
 use Rattle.runs.specs.Traces as Traces
 use Rattle.lock.specs.Lock as L
 use Rattle.lock.specs.History as LH
-use Rattle.lock.specs.Promise as Lock
+use Rattle.lock.proofs.Promise as Lock
 use Rattle.tasks.specs.Accesses.{task_at}
 use Rattle.tasks.specs.Tasks.{working, Status, ready, held, running, stage, is_held, is_received}
 use Rattle.tasks.specs.History as Th

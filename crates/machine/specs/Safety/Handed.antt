@@ -7,7 +7,7 @@ use Rattle.std.proofs.Math.Option.{Option, none, some}
 use Rattle.runs.specs.Update.{order, upd, clash}
 use Rattle.lock.specs.Lock as L
 use Rattle.lock.specs.History as LH
-use Rattle.lock.specs.Promise as Lock
+use Rattle.lock.proofs.Promise as Lock
 use Rattle.tasks.specs.Tasks as T
 use Rattle.tasks.specs.Promise as Promise
 use Rattle.machine.specs.State.{Setup, State}

@@ -9,7 +9,7 @@ use Rattle.runs.specs.Picks.{Picks}
 use Rattle.runs.specs.Traces as Traces
 use Rattle.lock.specs.Lock as L
 use Rattle.lock.specs.History as LH
-use Rattle.lock.specs.Promise as Lock
+use Rattle.lock.proofs.Promise as Lock
 use Rattle.tasks.specs.Accesses.{task_at}
 use Rattle.tasks.specs.Tasks.{over, is_received, is_ended}
 use Rattle.tasks.specs.History as Th

@@ -5,8 +5,8 @@ use Rattle.std.proofs.Math.Option.{Option, none, some}
 use Rattle.runs.specs.Update.{upd, upd_id, map_upd, clash}
 use Rattle.lock.specs.Lock as L
 use Rattle.lock.specs.History as H
-use Rattle.lock.specs.Promise as Promise
-use Rattle.lock.specs.Promise.{Kept}
+use Rattle.lock.proofs.Promise as Promise
+use Rattle.lock.proofs.Promise.{Kept}
 use Rattle.machine.specs.State.{Setup, Purpose, Place, idle, trying, registering, looking, draining, serving, handing, leaving, for_serving, for_adding, State, start}
 use Rattle.machine.specs.Event.{Event}
 use Rattle.machine.specs.Step.{apply, lock_op, effect, lock_after, after_draining, next_drain}

@@ -7,7 +7,7 @@ use Rattle.runs.specs.Searches.{last_exactly}
 use Rattle.runs.specs.Picks.{Picks}
 use Rattle.lock.specs.Lock as L
 use Rattle.lock.specs.History as LH
-use Rattle.lock.specs.Promise as Lock
+use Rattle.lock.proofs.Promise as Lock
 use Rattle.machine.specs.State.{Setup, Place, State, picked}
 use Rattle.machine.specs.Event.{event}
 use Rattle.machine.specs.Step.{lock_op, step, after}

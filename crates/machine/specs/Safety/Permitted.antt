@@ -7,7 +7,7 @@ use Rattle.runs.specs.Update.{upd, upd_other, upd_all, clash}
 use Rattle.runs.specs.Counts.{is_equal}
 use Rattle.runs.specs.Picks.{Picks}
 use Rattle.runs.specs.Traces as Traces
-use Rattle.lock.specs.Promise as Lock
+use Rattle.lock.proofs.Promise as Lock
 use Rattle.machine.specs.State.{Setup, State, start, picked}
 use Rattle.machine.specs.Event.{Event, tries_and_owns, takes_ticket, registers, receives, owns, hands_over, leaves, may, handed_by, event}
 use Rattle.machine.specs.Ready.{chosen_may}

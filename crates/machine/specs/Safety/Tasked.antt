@@ -8,7 +8,7 @@ use Rattle.runs.specs.Sums.{sum, sum_at, sum_upd, sum_two}
 use Rattle.runs.specs.Counts.{is, count, count_nil, count_cons, count_append}
 use Rattle.lock.specs.Lock as L
 use Rattle.lock.specs.History as LH
-use Rattle.lock.specs.Promise as Lock
+use Rattle.lock.proofs.Promise as Lock
 use Rattle.tasks.specs.Tasks as T
 use Rattle.tasks.specs.Tasks.{Message}
 use Rattle.tasks.specs.History as H

@@ -4,7 +4,7 @@ use Rattle.std.proofs.Common.{ap, inr}
 use Rattle.runs.specs.Update.{upd_same}
 use Rattle.runs.specs.Picks.{Picks, run}
 use Rattle.lock.specs.Lock as L
-use Rattle.lock.specs.Promise as Promise
+use Rattle.lock.proofs.Promise as Promise
 use Rattle.machine.specs.State.{Setup, looking, State, start, picked}
 use Rattle.machine.specs.Event.{registers, event}
 use Rattle.machine.specs.Step.{step, pick, after}

@@ -12,11 +12,11 @@ use Rattle.lock.specs.Lock as lock
 use Rattle.lock.specs.Lock.{Lock, start, join}
 use Rattle.lock.specs.History.{Stand, out, taken, waiting, owning, serving, Op, Can, can_take, can_register, can_own, can_receive}
 use Rattle.lock.specs.History.{can_fill, can_pass, can_leave, can_try, after, stand_after}
-use Rattle.lock.specs.Inside.Looks.{seen}
-use Rattle.lock.specs.Inside.Ring.{slots_start, slots_handed}
+use Rattle.lock.proofs.Inside.Looks.{seen}
+use Rattle.lock.proofs.Inside.Ring.{slots_start, slots_handed}
 use Rattle.lock.specs.Inside.Invariant.{held, Given, Leads, Aside, Led, free, led, Tickets, Cells, Entry, Entries, Inv}
-use Rattle.lock.specs.Inside.Facts.{held_given, not_both, leads_or_aside, led_by, room, free_or_led, slot_iff, late, unfilled}
-use Rattle.lock.specs.Inside.Facts.{front_waits}
+use Rattle.lock.proofs.Inside.Facts.{held_given, not_both, leads_or_aside, led_by, room, free_or_led, slot_iff, late, unfilled}
+use Rattle.lock.proofs.Inside.Facts.{front_waits}
 
 given_more : (N head c : ℕ) (x : Stand) → Given N head c x → Given N (suc head) c x
 given_more N head c out g = tt

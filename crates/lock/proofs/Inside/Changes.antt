@@ -11,11 +11,12 @@ use Rattle.lock.specs.History.{Stand, out, taken, waiting, owning, serving, Op, 
 use Rattle.lock.specs.History.{Can, can_take, can_register, can_own, can_receive, can_fill, can_pass, can_leave, can_try, after}
 use Rattle.lock.specs.History.{stand_after}
 use Rattle.lock.specs.History.{hands_over, takes, registers, fills, Owner, InCell}
-use Rattle.lock.specs.Inside.Ring.{Slots, slots_handed}
+use Rattle.lock.specs.Inside.Ring.{Slots}
+use Rattle.lock.proofs.Inside.Ring.{slots_handed}
 use Rattle.lock.specs.Inside.Invariant.{Inv}
-use Rattle.lock.specs.Inside.Facts.{no_ticket, front_waits, waits_front}
-use Rattle.lock.specs.Inside.Keeps.{keeps}
-use Rattle.lock.specs.Inside.Laws.{turn_slot, turn_early, ticket_given, ticket_one, look_served, look_called, owning_cells}
+use Rattle.lock.proofs.Inside.Facts.{no_ticket, front_waits, waits_front}
+use Rattle.lock.proofs.Inside.Keeps.{keeps}
+use Rattle.lock.proofs.Inside.Laws.{turn_slot, turn_early, ticket_given, ticket_one, look_served, look_called, owning_cells}
 
 -- ---- of any lock
 

@@ -8,12 +8,13 @@ use Rattle.runs.specs.Update.{same, order, clash}
 use Rattle.runs.specs.Near.{near_mod}
 use Rattle.lock.specs.Lock.{Lock, start, turn, join, distance, front, is_free, not_yet, receives, owns, look}
 use Rattle.lock.specs.History.{Stand, out, taken, waiting, owning, serving, Holds, Owner, Served, Due, Called, InCell}
-use Rattle.lock.specs.Inside.Looks.{looks_early, looks_served, looks_first, seen}
-use Rattle.lock.specs.Inside.Ring.{Slots, turn_iff}
+use Rattle.lock.proofs.Inside.Looks.{looks_early, looks_served, looks_first, seen}
+use Rattle.lock.specs.Inside.Ring.{Slots}
+use Rattle.lock.proofs.Inside.Ring.{turn_iff}
 use Rattle.lock.specs.Inside.Invariant.{Leads, Aside, Led, free, led, Inv}
-use Rattle.lock.specs.Inside.Facts.{holds_held, held_holds, no_ticket, owner_leads, aside_served, leads_called, not_both}
-use Rattle.lock.specs.Inside.Facts.{leads_or_aside, led_by, one_leader, free_or_led, room, slot_iff, late, unfilled}
-use Rattle.lock.specs.Inside.Facts.{entry_waits, front_waits, waits_front}
+use Rattle.lock.proofs.Inside.Facts.{holds_held, held_holds, no_ticket, owner_leads, aside_served, leads_called, not_both}
+use Rattle.lock.proofs.Inside.Facts.{leads_or_aside, led_by, one_leader, free_or_led, room, slot_iff, late, unfilled}
+use Rattle.lock.proofs.Inside.Facts.{entry_waits, front_waits, waits_front}
 
 pub turn_slot : (N : ℕ) (l : Lock) → Slots N l.tail l.wait → (t : ℕ) → N ≤ t → (turn N l t ≡ true) ↔ (t < l.tail)
 unfolding turn

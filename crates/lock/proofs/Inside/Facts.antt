@@ -9,8 +9,8 @@ use Rattle.runs.specs.Sums.{cover}
 use Rattle.runs.specs.Near.{near_mod}
 use Rattle.lock.specs.Lock.{Lock, join, worker_in, front}
 use Rattle.lock.specs.History.{Stand, out, taken, waiting, owning, serving, Holds, Owner}
-use Rattle.lock.specs.Inside.Looks.{front_some, fronted}
-use Rattle.lock.specs.Inside.Ring.{turn_iff}
+use Rattle.lock.proofs.Inside.Looks.{front_some, fronted}
+use Rattle.lock.proofs.Inside.Ring.{turn_iff}
 use Rattle.lock.specs.Inside.Invariant.{held, Given, Leads, Aside, Led, free, led, Tickets, Entry, Inv}
 
 pub held_given : (N head c : ℕ) (x : Stand) → Given N head c x → held x ≢ 0 → (N ≤ held x) × (held x < head)

@@ -8,9 +8,9 @@ use Rattle.lock.specs.Lock.{Lock, start, turn, join, distance}
 use Rattle.lock.specs.History.{Stand, waiting, Op, receive, Can, after, stand_after, hands_over, Move, hand_overs, Run, still, then}
 use Rattle.lock.specs.History.{History, Holds, InCell}
 use Rattle.lock.specs.Inside.Invariant.{Inv}
-use Rattle.lock.specs.Inside.Keeps.{starts, keeps}
-use Rattle.lock.specs.Inside.Laws.{ticket_given, holder_below, ends, turn_hands}
-use Rattle.lock.specs.Inside.Changes.{ends_after, at_most_one, cell_stays}
+use Rattle.lock.proofs.Inside.Keeps.{starts, keeps}
+use Rattle.lock.proofs.Inside.Laws.{ticket_given, holder_below, ends, turn_hands}
+use Rattle.lock.proofs.Inside.Changes.{ends_after, at_most_one, cell_stays}
 
 pub hand_overs_more : (m : Move) (ms : List Move) → hand_overs (m ∷ ms) ≡ hands_over m.op + hand_overs ms
 unfolding hand_overs

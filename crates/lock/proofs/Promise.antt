@@ -10,13 +10,13 @@ use Rattle.lock.specs.Lock.{Lock, EMPTY, start, turn, join, worker_in, distance,
 use Rattle.lock.specs.History.{Stand, out, taken, waiting, owning, serving, Op, take, register, own, receive, fill, pass, leave, try}
 use Rattle.lock.specs.History.{Can, after, stand_after, hands_over, takes, registers, fills, Move, hand_overs, Run, History}
 use Rattle.lock.specs.History.{Holds, Owner, Served, Due, Called, InCell}
-use Rattle.lock.specs.Inside.Looks as Looks
+use Rattle.lock.proofs.Inside.Looks as Looks
 use Rattle.lock.specs.Inside.Invariant.{Inv}
-use Rattle.lock.specs.Inside.Facts as Facts
-use Rattle.lock.specs.Inside.Keeps as Keeps
-use Rattle.lock.specs.Inside.Laws as Laws
-use Rattle.lock.specs.Inside.Changes as Changes
-use Rattle.lock.specs.Inside.Histories as Histories
+use Rattle.lock.proofs.Inside.Facts as Facts
+use Rattle.lock.proofs.Inside.Keeps as Keeps
+use Rattle.lock.proofs.Inside.Laws as Laws
+use Rattle.lock.proofs.Inside.Changes as Changes
+use Rattle.lock.proofs.Inside.Histories as Histories
 
 -- what every history of the operations keeps, of the lock and of where the workers stand; nobody else can open it or make one
 pub record Kept (W N : ℕ) (l : Lock) (st : ℕ → Stand) : Type 0 where
