@@ -3,7 +3,7 @@ use Rattle.std.specs.Prelude.{ℕ, ◌+◌, ◌*◌, ◌≤◌, ◌≡◌, true,
 use Rattle.std.proofs.Common.{arith}
 use Rattle.runs.specs.Picks.{Picks}
 use Rattle.runs.specs.Apart.{Apart, InTurn, apart_one, apart_take, in_turn_apart}
-use Rattle.runs.specs.Traces as Traces
+use Rattle.runs.proofs.Traces as Traces
 use Rattle.runs.specs.Traces.{workers_of}
 use Rattle.plan.specs.Chains.{Chain, chain_cost, last_of, last_below_lem}
 use Rattle.tasks.specs.Tasks.{over}

@@ -23,7 +23,7 @@ use Rattle.std.proofs.Math.Bool.{true, false}
 use Rattle.std.proofs.Math.Option.{Option, none, some}
 use Rattle.std.proofs.Math.ListN.{get_elem?, length-take}
 use Rattle.runs.specs.Update.{order, upd}
-use Rattle.runs.specs.Traces.{tally_at}
+use Rattle.runs.proofs.Traces.{tally_at}
 use Rattle.runs.specs.Picks.{Picks, picks_take, run, run_append, run_drop}
 use Rattle.lock.specs.History.{Owner}
 use Rattle.lock.proofs.Promise as Lock

@@ -18,6 +18,7 @@ use Rattle.runs.specs.Picks.{Picks, pick, run}
 use Rattle.runs.specs.Apart.{Apart, apart_one}
 use Rattle.runs.specs.Sums.{sum}
 use Rattle.runs.specs.Traces as Traces
+use Rattle.runs.proofs.Traces as TracesLaws
 use Rattle.runs.specs.Traces.{Happening, workers_of}
 use Rattle.plan.specs.Plan.{Task}
 use Rattle.plan.specs.Chains.{conflict, Chain, chain_cost, last_of}
@@ -343,4 +344,4 @@ module _ {E : Type 0} (task_op : E → Option H.Op) where
       pub plays : (ws : List ℕ) → Picks W ws → (s : S) → Inv s
           → Plays s (Traces.trace finished step event s ws) (run (Traces.pick finished step) s ws)
       unfolding moves
-      plays = Traces.along finished step event W Inv Plays keeps (λ s v. H.still) more
+      plays = TracesLaws.along finished step event W Inv Plays keeps (λ s v. H.still) more

@@ -9,6 +9,7 @@ use Rattle.runs.specs.Update.{same, upd, upd_same, upd_other, clash}
 use Rattle.runs.specs.Counts.{is_same, is_other, count}
 use Rattle.runs.specs.Picks.{Picks}
 use Rattle.runs.specs.Traces as Traces
+use Rattle.runs.proofs.Traces as TracesLaws
 use Rattle.lock.specs.Lock as L
 use Rattle.lock.specs.History as LH
 use Rattle.lock.proofs.Promise as Lock
@@ -416,5 +417,5 @@ module _ (c : Setup) (playable : Playable c) (i : ℕ) where
   pub gave_after : (ws : List ℕ) → Picks c.workers ws → GaveAt c i (after c ws) (trace c (start c) ws)
   unfolding after
   gave_after ws p =
-      Traces.along (finished c) (step c) (event c) c.workers (Inv c) Goes (inv_step c playable)
+      TracesLaws.along (finished c) (step c) (event c) c.workers (Inv c) Goes (inv_step c playable)
       (λ s v before g. rw (append-nil before) g) gave_step ws p (start c) (inv_start c playable) [] gave_start

@@ -6,7 +6,7 @@ use Rattle.std.proofs.Common.{append-nil}
 use Rattle.std.proofs.Math.Option.{Option, none, some}
 use Rattle.std.proofs.Math.ListN.{get_elem?}
 use Rattle.runs.specs.Picks.{Picks}
-use Rattle.runs.specs.Traces as Traces
+use Rattle.runs.proofs.Traces as Traces
 use Rattle.lock.specs.Lock as L
 use Rattle.lock.specs.History as LH
 use Rattle.lock.proofs.Promise as Lock

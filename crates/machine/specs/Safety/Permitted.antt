@@ -6,7 +6,7 @@ use Rattle.std.proofs.Math.ListN.{get_elem?}
 use Rattle.runs.specs.Update.{upd, upd_other, upd_all, clash}
 use Rattle.runs.specs.Counts.{is_equal}
 use Rattle.runs.specs.Picks.{Picks}
-use Rattle.runs.specs.Traces as Traces
+use Rattle.runs.proofs.Traces as Traces
 use Rattle.lock.proofs.Promise as Lock
 use Rattle.machine.specs.State.{Setup, State, start, picked}
 use Rattle.machine.specs.Event.{Event, tries_and_owns, takes_ticket, registers, receives, owns, hands_over, leaves, may, handed_by, event}

@@ -9,6 +9,7 @@ use Rattle.std.proofs.Math.ListN.{get_elem?}
 use Rattle.runs.specs.Update.{clash}
 use Rattle.runs.specs.Picks.{Picks, run}
 use Rattle.runs.specs.Traces as Traces
+use Rattle.runs.proofs.Traces as TracesLaws
 use Rattle.machine.specs.State.{Setup, State}
 use Rattle.machine.specs.Event.{Event, event}
 use Rattle.machine.specs.Step.{step, finished, pick}
@@ -43,25 +44,25 @@ module _ (w : ℕ) (e : Event) where
 
 module _ (c : Setup) where
   pub pick_finished : (s : State) (w : ℕ) → finished c s ≡ true → pick c s w ≡ s
-  pick_finished = Traces.pick_finished (finished c) (step c)
+  pick_finished = TracesLaws.pick_finished (finished c) (step c)
 
   pub pick_open : (s : State) (w : ℕ) → finished c s ≡ false → pick c s w ≡ step c s w
-  pick_open = Traces.pick_open (finished c) (step c)
+  pick_open = TracesLaws.pick_open (finished c) (step c)
 
   pub run_finished : (s : State) → finished c s ≡ true → (ws : List ℕ) → run (pick c) s ws ≡ s
-  run_finished = Traces.run_finished (finished c) (step c)
+  run_finished = TracesLaws.run_finished (finished c) (step c)
 
   pub run_inv : (Inv : State → Type 0) → ((s : State) (w : ℕ) → w < c.workers → Inv s → Inv (step c s w))
       → (ws : List ℕ) → Picks c.workers ws → (s : State) → Inv s → Inv (run (pick c) s ws)
-  run_inv = Traces.run_inv (finished c) (step c) (event c) c.workers
+  run_inv = TracesLaws.run_inv (finished c) (step c) (event c) c.workers
 
   pub pick_keeps : (Inv : State → Type 0) → ((s : State) (w : ℕ) → w < c.workers → Inv s → Inv (step c s w)) → (s : State) (w : ℕ)
       → w < c.workers → Inv s → Inv (pick c s w)
-  pick_keeps = Traces.pick_keeps (finished c) (step c) c.workers
+  pick_keeps = TracesLaws.pick_keeps (finished c) (step c) c.workers
 
   pub tallied : (f : Event → ℕ) (m : State → ℕ) → ((s : State) (w : ℕ) → m (step c s w) ≡ m s + f (event c s w))
       → (ws : List ℕ) → Picks c.workers ws → (s : State) → m (run (pick c) s ws) ≡ m s + tally f (trace c s ws)
-  tallied = Traces.tallied (finished c) (step c) (event c) c.workers
+  tallied = TracesLaws.tallied (finished c) (step c) (event c) c.workers
 
   pub step_picks : (s : State) (w : ℕ) → (step c s w).picks ≡ suc s.picks
   unfolding step
@@ -70,12 +71,12 @@ module _ (c : Setup) where
   -- the picks counted are those taken
   pub picks_taken : (ws : List ℕ) → Picks c.workers ws → (s : State) → (run (pick c) s ws).picks ≡ length (trace c s ws) + s.picks
   picks_taken ws p s =
-      Traces.along (finished c) (step c) (event c) c.workers (λ s. Unit {0}) (λ s hs t. t.picks ≡ length hs + s.picks) (λ s w l v. tt)
+      TracesLaws.along (finished c) (step c) (event c) c.workers (λ s. Unit {0}) (λ s hs t. t.picks ≡ length hs + s.picks) (λ s w l v. tt)
       (λ s v. omega arith) (λ s t w hs l v r. omega (arith, step_picks s w)) ws p s tt
 
   pub taken_within : (ws : List ℕ) (s : State) → length (trace c s ws) ≤ length ws
-  taken_within = Traces.taken_within (finished c) (step c) (event c)
+  taken_within = TracesLaws.taken_within (finished c) (step c) (event c)
 
   -- all of the list, or until the state is finished
   pub taken_all : (ws : List ℕ) (s : State) → (length (trace c s ws) ≡ length ws) ⊎ (finished c (run (pick c) s ws) ≡ true)
-  taken_all = Traces.taken_all (finished c) (step c) (event c)
+  taken_all = TracesLaws.taken_all (finished c) (step c) (event c)
