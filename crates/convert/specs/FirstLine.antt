@@ -7,7 +7,7 @@ use Rattle.runs.specs.Tests.{ways, both_left, both_right, or_left, or_right}
 use Rattle.runs.specs.Update.{clash}
 use Rattle.text.specs.Text.{tab, line_feed, split, line}
 use Rattle.text.specs.Fields.{First, unended, first, behind, begun, first_line}
-use Rattle.text.specs.FieldLaws.{line_parts, line_unended}
+use Rattle.text.proofs.FieldLaws.{line_parts, line_unended}
 use Rattle.convert.specs.Convert.{after_line}
 
 -- a byte that ends no field

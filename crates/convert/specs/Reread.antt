@@ -9,7 +9,7 @@ use Rattle.runs.specs.Every.{every}
 use Rattle.runs.specs.Tests.{ways, both_left, both_right}
 use Rattle.runs.specs.Update.{clash}
 use Rattle.text.specs.Text.{line_feed, tab, within, is_digit, split, bytes, decimal, line}
-use Rattle.text.specs.FieldLaws.{some_part}
+use Rattle.text.proofs.FieldLaws.{some_part}
 use Rattle.text.specs.Numerals.{number_decimal, decimal_digits}
 use Rattle.plan.specs.declared.form.Form.{Form}
 use Rattle.plan.specs.declared.form.Form.TheVariants.{First, Second}

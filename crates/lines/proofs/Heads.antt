@@ -14,9 +14,10 @@ use Rattle.runs.specs.Update.{order, clash}
 use Rattle.text.specs.declared.read.Number.{Number}
 use Rattle.runs.specs.Tests.{ways}
 use Rattle.text.specs.Text.{number_of}
-use Rattle.text.specs.LineEnds.{Reaches, reaches_on}
+use Rattle.text.specs.LineEnds.{Reaches}
+use Rattle.text.proofs.LineEnds.{reaches_on}
 use Rattle.text.specs.Fields.{cut, field_of, said, unsaid, no_number, ReadNumber, clipped, Fields}
-use Rattle.text.specs.FieldLaws.{fields_none, fields_more, fields_reach, field_bytes}
+use Rattle.text.proofs.FieldLaws.{fields_none, fields_more, fields_reach, field_bytes}
 use Rattle.plan.specs.declared.field.Label.{Label}
 use Rattle.plan.specs.declared.field.Label.TheVariants as labels
 use Rattle.plan.specs.Plan.{Task, Plan}

@@ -9,9 +9,10 @@ use native.Mathlib.Omega.{arith}
 use lib.ListN.{length, drop, get_or}
 use borrow.Author.Tests.{ne_eqb}
 use Rattle.text.specs.Text.{tab}
-use Rattle.text.specs.LineEnds.{Reaches, reaches_on}
+use Rattle.text.specs.LineEnds.{Reaches}
+use Rattle.text.proofs.LineEnds.{reaches_on}
 use Rattle.text.specs.Fields.{NONE, First, unended, first, first_line, Fields}
-use Rattle.text.specs.FieldLaws.{byte_within, fields_reach, fields_letter, letter_of, letter_alone}
+use Rattle.text.proofs.FieldLaws.{byte_within, fields_reach, fields_letter, letter_of, letter_alone}
 use Rattle.plan.specs.Plan.{Plan}
 use Rattle.plan.specs.Line as plans
 use Rattle.plan.specs.Line.{'M', 'P', 'R', 'S', 'T', 'W', label_and_cost, task_line, line_by, line_of_fields}

@@ -16,10 +16,11 @@ use Rattle.text.specs.declared.read.Number.TheVariants as numbers
 use Rattle.text.specs.Text.{tab, within, number_of}
 use Rattle.runs.specs.Tests.{ways, both_left, both_right, not_both}
 use Rattle.runs.specs.Update.{clash}
-use Rattle.text.specs.LineEnds.{Reaches, reaches_on}
+use Rattle.text.specs.LineEnds.{Reaches}
+use Rattle.text.proofs.LineEnds.{reaches_on}
 use Rattle.text.specs.Fields.{Cut, endless, cut, field_of, said, unsaid, no_number, ReadNumber, clipped, fits_in}
 use Rattle.text.specs.Fields.{First, unended, first, behind, first_line, goes_on, Fields}
-use Rattle.text.specs.FieldLaws.{fields_none, fields_more, fields_endless, fields_reach, line_parts, some_part}
+use Rattle.text.proofs.FieldLaws.{fields_none, fields_more, fields_endless, fields_reach, line_parts, some_part}
 use Rattle.plan.specs.declared.form.Form.{Form}
 use Rattle.plan.specs.declared.form.Form.TheVariants as forms
 use Rattle.plan.specs.Plan.{Order, picks, seeded, Plan}

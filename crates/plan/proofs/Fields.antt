@@ -11,7 +11,7 @@ use Rattle.text.specs.Text.{tab, line_feed, within, number_of}
 use Rattle.text.specs.declared.read.Number.{Number}
 use Rattle.text.specs.LineEnds.{NONE, after_look}
 use Rattle.text.specs.Fields.{Cut, endless, cut, field_of, Unsaid, Answers, said, unsaid, no_number, ReadNumber}
-use Rattle.text.specs.FieldLaws.{byte_within, answers_end, answers_empty, answers_on, answers_bad}
+use Rattle.text.proofs.FieldLaws.{byte_within, answers_end, answers_empty, answers_on, answers_bad}
 use Rattle.plan.specs.declared.field.Label.{Label}
 use Rattle.plan.specs.declared.field.Label.TheVariants as labels
 use Rattle.plan.specs.declared.field.Access.TheVariants as accesses

@@ -10,7 +10,7 @@ use Rattle.refusals.specs.declared.Refusal.{Refusal}
 use Rattle.refusals.specs.declared.Refusal.TheVariants.{Misplaced, TextTooLong}
 use Rattle.runs.specs.Every.{every}
 use Rattle.runs.specs.Update.{clash}
-use Rattle.text.specs.FieldLaws.{some_part}
+use Rattle.text.proofs.FieldLaws.{some_part}
 use Rattle.text.specs.Text.{line_feed, tab, within, all_of, on_first, split, number_of}
 use Rattle.plan.specs.declared.form.Form.{Form}
 use Rattle.plan.specs.declared.form.Form.TheVariants.{First, Second}

@@ -13,9 +13,10 @@ use Rattle.refusals.specs.declared.Refusal.TheVariants.{Malformed, Misplaced, Te
 use Rattle.runs.specs.Update.{clash}
 use Rattle.runs.specs.Stores.{drop_from}
 use Rattle.text.specs.Text.{line_feed, split, all_of, number_of}
-use Rattle.text.specs.LineEnds.{lines_size, line_end, Reaches, reaches_on, end_past, lines_more}
+use Rattle.text.specs.LineEnds.{lines_size, line_end, Reaches}
+use Rattle.text.proofs.LineEnds.{reaches_on, end_past, lines_more}
 use Rattle.text.specs.Fields.{cut, field_of, said, unsaid, First, unended, first, first_line, Fields, clipped}
-use Rattle.text.specs.FieldLaws.{some_part, field_length, fields_more, fields_reach, line_parts, line_unended}
+use Rattle.text.proofs.FieldLaws.{some_part, field_length, fields_more, fields_reach, line_parts, line_unended}
 use Rattle.plan.specs.declared.field.Access as fields
 use Rattle.plan.specs.declared.field.Access.TheVariants as accesses
 use Rattle.plan.specs.declared.form.Form.{Form}

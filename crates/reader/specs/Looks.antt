@@ -2,7 +2,8 @@
 use Rattle.std.specs.Prelude.{ℕ, zero, suc, ◌≤◌, ◌≡◌, refl, List, length}
 use Rattle.std.proofs.Common.{ap, ⊎_elim, arith, add-one}
 use Rattle.refusals.specs.declared.Refusal.TheVariants.{TextTooLong}
-use Rattle.text.specs.LineEnds.{lines_size, lines_more, lines_within}
+use Rattle.text.specs.LineEnds.{lines_size}
+use Rattle.text.proofs.LineEnds.{lines_more, lines_within}
 use Rattle.plan.specs.Reading.{Reading, accepted, refused, reading}
 use Rattle.plan.specs.Refused.{ByAuthor, refused_by}
 use Rattle.reader.specs.Verdict.{looked, verdict}

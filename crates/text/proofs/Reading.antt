@@ -17,7 +17,7 @@ use Rattle.text.specs.Text.{tab, line_feed, is_digit, value_after, number_of}
 use Rattle.runs.specs.Tests.{ways}
 use Rattle.text.specs.LineEnds.{NONE, after_look}
 use Rattle.text.specs.Fields.{fits_in, as_number, no_number, ReadNumber, held, Clipped, digit_after, end_number, more_of, MoreDigits}
-use Rattle.text.specs.FieldLaws.{byte_within, answers_end, answers_empty, answers_on, answers_bad}
+use Rattle.text.proofs.FieldLaws.{byte_within, answers_end, answers_empty, answers_on, answers_bad}
 
 -- ---- one digit more
 

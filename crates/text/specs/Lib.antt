@@ -3,7 +3,6 @@ pub mod Decimals
 pub mod Numerals
 pub mod LineEnds
 pub mod Fields
-pub mod FieldLaws
 pub mod Lines
 pub mod Writing
 pub mod WritingLaws

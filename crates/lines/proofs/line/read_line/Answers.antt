@@ -8,7 +8,8 @@ use mathlib.Core.Logic.{◌≢◌}
 use lib.ListN.{length, get_or}
 use Rattle.text.specs.Text.{tab, line_feed}
 use Rattle.text.specs.Fields.{NONE}
-use Rattle.text.specs.LineEnds.{Reaches, after_look, look_within, reaches_on, reaches_feed, reaches_other, reaches_look}
+use Rattle.text.specs.LineEnds.{Reaches, after_look}
+use Rattle.text.proofs.LineEnds.{look_within, reaches_on, reaches_feed, reaches_other, reaches_look}
 use Rattle.plan.specs.Line.{'M', 'P', 'R', 'S', 'W', workers_line, mask_line, picks_line, rounds_line, seeded_line}
 use Rattle.plan.specs.Line.{one_number, two_numbers, in_form, line_by}
 use Rattle.lines.proofs.Letters.{fields_on, whole_line, task_line_lem, no_tab, no_letter}

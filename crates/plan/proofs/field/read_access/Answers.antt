@@ -1,7 +1,8 @@
 -- `plan::field::read_access` meets its contract: by the first byte, the number after it being that of `read_number`. Assumes nothing.
 use Rattle.std.proofs.Common.{◌≡◌, ℕ, List, ◌+◌, ◌<◌, true, false, length, get_or, sym, ◌∙◌, arith}
-use Rattle.text.specs.LineEnds.{NONE, after_look, look_within}
-use Rattle.text.specs.FieldLaws.{byte_within}
+use Rattle.text.specs.LineEnds.{NONE, after_look}
+use Rattle.text.proofs.LineEnds.{look_within}
+use Rattle.text.proofs.FieldLaws.{byte_within}
 use Rattle.plan.proofs.Fields.{access_letter, access_ended, access_other}
 use Rattle.plan.proofs.field.read_access.Goals as goal
 

@@ -1,5 +1,6 @@
 use Rattle.std.proofs.Common.{◌≡◌, ◌+◌, ◌-◌, ◌<◌, true, length, get_or, sym, ◌∙◌, arith}
-use Rattle.text.specs.LineEnds.{NONE, look_within}
+use Rattle.text.specs.LineEnds.{NONE}
+use Rattle.text.proofs.LineEnds.{look_within}
 use Rattle.plan.specs.Line.{is_label_byte}
 use Rattle.plan.proofs.Fields.{label_whole, label_end, label_within, label_on}
 use Rattle.plan.proofs.field.read_label.Goals as goal

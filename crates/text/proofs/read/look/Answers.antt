@@ -4,7 +4,8 @@ use mathlib.Core.Path.{sym, ap, ◌∙◌}
 use Prim.Native.Nat.{ℕ, ◌+◌}
 use lib.ListN.{get_or-eq_default}
 use Rattle.runs.specs.Stores.{get_d_any}
-use Rattle.text.specs.LineEnds.{NONE, look_within, look_past}
+use Rattle.text.specs.LineEnds.{NONE}
+use Rattle.text.proofs.LineEnds.{look_within, look_past}
 use Rattle.text.proofs.read.look.Goals as goal
 
 pub returns-then-at-text : goal.returns-then-at-text

@@ -4,8 +4,9 @@ use native.Mathlib.Omega.{arith}
 use borrow.Author.Rules.{rules}
 use borrow.Author.Tests.{lt-ltb}
 use lib.ListN.{length, get_or}
-use Rattle.text.specs.LineEnds.{NONE, look_within}
-use Rattle.text.specs.FieldLaws.{byte_within}
+use Rattle.text.specs.LineEnds.{NONE}
+use Rattle.text.proofs.LineEnds.{look_within}
+use Rattle.text.proofs.FieldLaws.{byte_within}
 use Rattle.text.proofs.Reading.{held_more, held_clipped, more_end, more_high, more_leading, more_digit}
 use Rattle.text.proofs.read.more_digits.Goals as goal
 

@@ -3,8 +3,8 @@ use Prim.Native.Nat.{◌+◌, ◌<◌}
 use mathlib.Core.Path.{◌≡◌, sym, ◌∙◌}
 use native.Mathlib.Omega.{arith}
 use lib.ListN.{length}
-use Rattle.text.specs.LineEnds.{look_within}
-use Rattle.text.specs.FieldLaws.{byte_within}
+use Rattle.text.proofs.LineEnds.{look_within}
+use Rattle.text.proofs.FieldLaws.{byte_within}
 use Rattle.text.proofs.Reading.{number_ended, number_low, number_high, number_digit}
 use Rattle.text.proofs.read.read_number.Goals as goal
 

@@ -9,7 +9,8 @@ use Rattle.runs.specs.Update.{order, clash}
 use Rattle.runs.specs.Tests.{ways}
 use Rattle.runs.specs.Stores.{drop_from}
 use Rattle.text.specs.Text.{tab, line_feed, on_first, split}
-use Rattle.text.specs.LineEnds.{NONE, lines_size, line_end, after_look, Reaches, look_within, reaches_on, reaches_feed, reaches_other}
+use Rattle.text.specs.LineEnds.{NONE, lines_size, line_end, after_look, Reaches}
+use Rattle.text.proofs.LineEnds.{look_within, reaches_on, reaches_feed, reaches_other}
 use Rattle.text.specs.Fields.{Cut, endless, cut, cut_after, field_of, Unsaid, Answers, said, unsaid}
 use Rattle.text.specs.Fields.{First, unended, first, behind, begun, first_line, goes_on, Fields}
 
