@@ -10,7 +10,7 @@ use Rattle.runs.specs.Update.{order}
 use Rattle.refusals.specs.declared.Refusal.{Refusal}
 use Rattle.plan.specs.Plan.{Plan}
 use Rattle.plan.specs.Reading.{accepted, refused, reading}
-use Rattle.plan.specs.Accepted.{accepted_well_formed, accepted_orders}
+use Rattle.plan.proofs.Accepted.{accepted_well_formed, accepted_orders}
 use Rattle.kept.specs.Layout as layout
 use Rattle.kept.specs.TaskLaws.{tasks_length, has_tasks}
 use Rattle.kept.specs.OrderLaws.{has_orders_lem}

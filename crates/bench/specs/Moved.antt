@@ -7,7 +7,7 @@ use Rattle.plan.specs.declared.form.Form.{Form}
 use Rattle.plan.specs.declared.form.Form.TheVariants.{First}
 use Rattle.plan.specs.Plan.{slots_of, capacity_of, Plan}
 use Rattle.plan.specs.Reading.{accepted, reading}
-use Rattle.plan.specs.Accepted.{accepted_length}
+use Rattle.plan.proofs.Accepted.{accepted_length}
 use Rattle.plan.specs.Orders.{picks_up_to}
 use Rattle.machine.specs.State.{Setup}
 use Rattle.machine.specs.Step.{after}

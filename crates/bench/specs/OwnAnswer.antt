@@ -6,7 +6,7 @@ use Rattle.runs.specs.Picks.{Regular}
 use Rattle.text.specs.Text.{bytes, decimal, line}
 use Rattle.plan.specs.Plan.{Plan}
 use Rattle.plan.specs.Reading.{accepted, reading}
-use Rattle.plan.specs.Accepted.{accepted_length}
+use Rattle.plan.proofs.Accepted.{accepted_length}
 use Rattle.plan.specs.Orders.{picks_up_to}
 use Rattle.machine.specs.Step.{finished}
 use Rattle.machine.specs.Figures.{finishing_figure}

@@ -12,7 +12,7 @@ use Rattle.text.specs.WritingLaws.{wrote_as, told_length, wrote_whole}
 use Rattle.plan.specs.Plan.{Task, Plan}
 use Rattle.plan.specs.Chains.{no_task}
 use Rattle.plan.specs.Reading.{Reading, accepted, refused, reading}
-use Rattle.plan.specs.Accepted.{accepted_well_formed}
+use Rattle.plan.proofs.Accepted.{accepted_well_formed}
 use Rattle.kept.specs.Layout as layout
 use Rattle.kept.specs.TaskLaws.{has_tasks}
 use Rattle.reader.specs.declared.ReadPlan.{ReadPlan}

@@ -11,7 +11,7 @@ use Rattle.text.specs.Decimals.{decimal_short}
 use Rattle.plan.specs.Plan.{Task}
 use Rattle.plan.specs.Chains.{no_task, task_at, Follow, Chain, chain_cost}
 use Rattle.plan.specs.Reading.{Reading, accepted, refused, reading}
-use Rattle.plan.specs.Accepted.{accepted_well_formed}
+use Rattle.plan.proofs.Accepted.{accepted_well_formed}
 use Rattle.tools.specs.Result.{result, of_plan}
 use Rattle.chain.specs.Longest.{longest, chain_line, chain_of}
 use Rattle.chain.specs.Ordered.{longest_or_none}

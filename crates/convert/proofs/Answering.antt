@@ -12,7 +12,7 @@ use Rattle.plan.specs.declared.form.Form.{Form}
 use Rattle.plan.specs.declared.form.Form.TheVariants.{First}
 use Rattle.plan.specs.Plan.{Plan}
 use Rattle.plan.specs.Reading.{Reading, accepted, refused, reading}
-use Rattle.plan.specs.Accepted.{accepted_length}
+use Rattle.plan.proofs.Accepted.{accepted_length}
 use Rattle.reader.specs.declared.ReadPlan.{ReadPlan}
 use Rattle.reader.specs.declared.Checked.TheVariants.{Accepted, Refused}
 use Rattle.reader.specs.Verdict.{outlined}

@@ -13,7 +13,8 @@ use Rattle.plan.specs.declared.form.Form.TheVariants.{First, Second}
 use Rattle.plan.specs.Plan.{slots_of, capacity_of, Plan}
 use Rattle.plan.specs.Line.{sizes_in_range}
 use Rattle.plan.specs.Reading.{Reading, accepted, refused, is_too_long, reading}
-use Rattle.plan.specs.Accepted.{WellFormed, accepted_well_formed, accepted_length}
+use Rattle.plan.specs.Accepted.{WellFormed}
+use Rattle.plan.proofs.Accepted.{accepted_well_formed, accepted_length}
 use Rattle.tools.specs.Result.{Result, result, refusal, of_plan, plan_text}
 use Rattle.tools.specs.Written.{text_whole}
 use Rattle.convert.specs.Convert.{after_line, workers_fields, rewritten, spelled_out, has_first_sizes}

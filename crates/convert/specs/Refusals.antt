@@ -12,8 +12,9 @@ use Rattle.plan.specs.declared.form.Form.TheVariants.{First, Second}
 use Rattle.plan.specs.Plan.{slots_of, capacity_of, Plan}
 use Rattle.plan.specs.Reading.{Reading, accepted, refused, is_too_long, reading}
 use Rattle.plan.specs.Lengths.{reading_long}
-use Rattle.plan.specs.Accepted.{accepted_length}
-use Rattle.plan.specs.Refused.{ByAuthor, refused_by}
+use Rattle.plan.proofs.Accepted.{accepted_length}
+use Rattle.plan.specs.Refused.{ByAuthor}
+use Rattle.plan.proofs.Refused.{refused_by}
 use Rattle.tools.specs.declared.Answer.TheVariants.{Writes, Refuses}
 use Rattle.tools.specs.Result.{Result, result, refusal, of_plan, plan_text, Outcome, written}
 use Rattle.tools.specs.Written.{text_long, written_short, written_whole}

@@ -18,7 +18,7 @@ use Rattle.plan.specs.Line.{Line, ends_unmasked, workers_line, task_line, mask_l
 use Rattle.plan.specs.Line.{sizes_in_range, in_form, line_by, line_of_fields, line_of}
 use Rattle.plan.specs.Reading.{Reading, accepted, refused, first_refusal, read_line, read_lines, is_too_long, reading}
 use Rattle.plan.specs.Lengths.{reading_short}
-use Rattle.plan.specs.Accepted.{granted}
+use Rattle.plan.proofs.Accepted.{granted}
 use Rattle.convert.specs.Convert.{after_line, workers_fields, rewritten}
 use Rattle.convert.specs.FirstLine.{is_field_byte, Whole, line_splits, after_line_lem, line_before, parts_after}
 use Rattle.convert.specs.Kinds.{Kind, malformed, workers, task, mask, order, Spelled, line_of_kind, kind_of}

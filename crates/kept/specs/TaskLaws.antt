@@ -10,7 +10,8 @@ use Rattle.std.proofs.lemmas.List.Edits.{sets}
 use Rattle.std.proofs.Math.Seq.{length-sets}
 use Rattle.runs.specs.Stores.{sets_append, sets_at, set_sets}
 use Rattle.plan.specs.Plan.{Access, Task, mask_last}
-use Rattle.plan.specs.Accepted.{Each, each_more}
+use Rattle.plan.specs.Accepted.{Each}
+use Rattle.plan.proofs.Accepted.{each_more}
 use Rattle.plan.specs.PassFields.{bit}
 use Rattle.kept.specs.Layout as layout
 use Rattle.kept.specs.Tasks.{access_numbers, Placed, spare, row_of, rows_of, Labelled, KeepsTasks}

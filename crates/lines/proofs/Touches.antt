@@ -15,7 +15,7 @@ use Rattle.text.specs.Fields.{clipped}
 use Rattle.plan.specs.Plan.{Access, Plan}
 use Rattle.plan.specs.Line.{ask, access, repeats, at_start, has_orders, task_line}
 use Rattle.plan.specs.Reading.{first_refusal}
-use Rattle.plan.specs.Accepted.{granted}
+use Rattle.plan.proofs.Accepted.{granted}
 use Rattle.plan.specs.PassFields.{bit}
 use Rattle.kept.specs.Tasks.{access_numbers, Placed, row_of}
 use Rattle.kept.specs.TaskLaws.{number_at}

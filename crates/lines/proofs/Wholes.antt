@@ -28,7 +28,7 @@ use Rattle.plan.specs.Line as plans
 use Rattle.plan.specs.Line.{ask, at_start, has_orders, ends_unmasked, sizes_in_range, workers_line, mask_line, order_line}
 use Rattle.plan.specs.Line.{one_number, with_both, two_numbers, in_form}
 use Rattle.plan.specs.Reading.{first_refusal}
-use Rattle.plan.specs.Accepted.{granted, ends_some}
+use Rattle.plan.proofs.Accepted.{granted, ends_some}
 use Rattle.kept.specs.Layout as layout
 use Rattle.kept.specs.Orders.{code_of, seed_of}
 use Rattle.lines.specs.declared.line.Fault.{Fault}

@@ -12,7 +12,8 @@ use Rattle.runs.specs.Picks.{Picks, run}
 use Rattle.plan.specs.Plan.{Plan, Order, rounds}
 use Rattle.plan.specs.Reading.{reading, accepted}
 use Rattle.plan.specs.Orders.{picks_of, picks_of_all}
-use Rattle.plan.specs.Accepted.{OrderFormed, WellFormed, accepted_well_formed}
+use Rattle.plan.specs.Accepted.{OrderFormed, WellFormed}
+use Rattle.plan.proofs.Accepted.{accepted_well_formed}
 use Rattle.picks.specs.declared.Source.{Source}
 use Rattle.picks.specs.Sources.{picks_from, Opens}
 use Rattle.picks.specs.SourceLaws.{from_take}

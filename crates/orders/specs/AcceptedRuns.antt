@@ -9,7 +9,8 @@ use Rattle.plan.specs.Plan.{slots_of, Plan}
 use Rattle.plan.specs.Reading.{accepted, reading}
 use Rattle.plan.specs.Orders.{picks_of_all, OnlyRounds, picks_up_to}
 use Rattle.plan.specs.Chains.{Chain, chain_cost}
-use Rattle.plan.specs.Accepted.{WellFormed, accepted_well_formed}
+use Rattle.plan.specs.Accepted.{WellFormed}
+use Rattle.plan.proofs.Accepted.{accepted_well_formed}
 use Rattle.plan.specs.Permits.{any_masked}
 use Rattle.plan.specs.PermitLaws.{some_permitted}
 use Rattle.tasks.specs.Accesses.{task_at}

@@ -4,7 +4,8 @@ use Rattle.std.proofs.Common.{arith, suc-mul, mul-le-mul, mul-le-mul_right, leng
 use Rattle.plan.specs.Plan.{Order, picks, rounds, seeded, Plan}
 use Rattle.plan.specs.Reading.{accepted, reading}
 use Rattle.plan.specs.Orders.{picks_of, picks_of_all, picks_up_to}
-use Rattle.plan.specs.Accepted.{Each, OrderFormed, accepted_well_formed, accepted_orders, accepted_length}
+use Rattle.plan.specs.Accepted.{Each, OrderFormed}
+use Rattle.plan.proofs.Accepted.{accepted_well_formed, accepted_orders, accepted_length}
 use Rattle.picks.specs.LineLaws.{count_picks}
 
 -- an order line has at most 1,000,000 rounds of 32 workers

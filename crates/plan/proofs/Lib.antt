@@ -1,2 +1,4 @@
 pub mod Halves
 pub mod Fields
+pub mod Accepted
+pub mod Refused

@@ -7,7 +7,7 @@ use Rattle.plan.specs.Plan.{Plan}
 use Rattle.plan.specs.Permits.{permits, permitted}
 use Rattle.plan.specs.Reading.{accepted, reading}
 use Rattle.plan.specs.Orders.{picks_up_to}
-use Rattle.plan.specs.Accepted.{accepted_well_formed}
+use Rattle.plan.proofs.Accepted.{accepted_well_formed}
 use Rattle.tasks.specs.Accesses.{task_at}
 use Rattle.machine.specs.Safety.{noted}
 use Rattle.machine.specs.declared.Leader.{Leader}

@@ -26,7 +26,7 @@ use Rattle.plan.specs.Line as plans
 use Rattle.plan.specs.Line.{'T', access, access_of, at_start, has_orders, ends_unmasked, after_task, is_label, with_cost}
 use Rattle.plan.specs.Line.{line_by, line_of_fields, task_line}
 use Rattle.plan.specs.Reading.{Reading, accepted, refused, first_refusal, read_line, read_lines, reading}
-use Rattle.plan.specs.Accepted.{mask_length}
+use Rattle.plan.proofs.Accepted.{mask_length}
 use Rattle.plan.specs.Lengths.{reading_long, reading_short}
 use Rattle.plan.specs.PassFields.{bit, no_access, ReadAccess}
 use Rattle.kept.specs.Layout as layout

@@ -5,7 +5,8 @@ use Rattle.refusals.specs.declared.Refusal.TheVariants.{TextTooLong}
 use Rattle.text.specs.LineEnds.{lines_size}
 use Rattle.text.proofs.LineEnds.{lines_more, lines_within}
 use Rattle.plan.specs.Reading.{Reading, accepted, refused, reading}
-use Rattle.plan.specs.Refused.{ByAuthor, refused_by}
+use Rattle.plan.specs.Refused.{ByAuthor}
+use Rattle.plan.proofs.Refused.{refused_by}
 use Rattle.reader.specs.Verdict.{looked, verdict}
 
 -- the text's length if accepted, 0 with 6, else (with a refusal that the plan's author causes) at least the bytes before the refused line and

@@ -9,7 +9,8 @@ use lib.Seq.{get_or-append-add}
 use lib.Dec.{eqb}
 use Rattle.plan.specs.Plan.{Task, Plan}
 use Rattle.plan.specs.Reading.{reading, accepted}
-use Rattle.plan.specs.Accepted.{WellFormed, accepted_well_formed}
+use Rattle.plan.specs.Accepted.{WellFormed}
+use Rattle.plan.proofs.Accepted.{accepted_well_formed}
 use Rattle.tasks.specs.Accesses.{no_task, no_access, accesses, task_at, access_at, first, reader}
 use Rattle.tasks.specs.Promise.{first_suc, first_all, first_mono, of_task}
 use Rattle.kept.specs.declared.tasks.Row.{Row}

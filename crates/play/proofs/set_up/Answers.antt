@@ -4,7 +4,7 @@ use native.Mathlib.Omega.{arith}
 use mathlib.Core.Path.{ap, ◌∙◌}
 use lib.ListN.{length}
 use Rattle.plan.specs.Plan.{slots_of, capacity_of}
-use Rattle.plan.specs.Accepted.{accepted_well_formed}
+use Rattle.plan.proofs.Accepted.{accepted_well_formed}
 use Rattle.steps.specs.Layout.{MASKS}
 use Rattle.scheduler.specs.Starting.{starts}
 use Rattle.orders.specs.Reached.{setup_of}

@@ -12,7 +12,8 @@ use Rattle.runs.specs.Update.{same, by_order}
 use Rattle.runs.specs.Every.{every}
 use Rattle.plan.specs.Plan.{Access, Task}
 use Rattle.plan.specs.Line.{repeats}
-use Rattle.plan.specs.Accepted.{Each, every_each}
+use Rattle.plan.specs.Accepted.{Each}
+use Rattle.plan.proofs.Accepted.{every_each}
 use Rattle.runs.specs.Searches.{last_below, first_from}
 use Rattle.tasks.specs.Accesses.{no_access, Distinct, accesses, task_of, task_at, access_at, first, reader}
 use Rattle.tasks.specs.Accesses.{same_address, prev, next, total, addr}
