@@ -10,7 +10,7 @@ use Rattle.plan.specs.Chains.{Chain, chain_cost, last_of, last_below_lem}
 use Rattle.plan.specs.Orders.{OnlyRounds}
 use Rattle.plan.specs.Reading.{Reading, accepted, reading}
 use Rattle.tasks.specs.Tasks.{over}
-use Rattle.tasks.specs.Playing.{all_over}
+use Rattle.tasks.proofs.Playing.{all_over}
 use Rattle.machine.specs.Step.{finished}
 use Rattle.report.specs.Report.{total_permitted}
 use Rattle.tools.specs.Result.{result, of_plan}

@@ -25,7 +25,7 @@ use Rattle.memory.specs.Memory.{TaskMemory, memory, HoldsTasks, Able, HeldAfter,
 use Rattle.memory.specs.declared.tally.Tally.{Tally}
 use Rattle.memory.specs.RowLaws.{count_set, status_set}
 use Rattle.duties.specs.FromTasks.{counted_waits, opening_new, linking_within}
-use Rattle.tasks.specs.Promise.{first_suc}
+use Rattle.tasks.proofs.Promise.{first_suc}
 use Rattle.duties.proofs.Held.{own_stored, stored_now, stored_still, pending_now, pending_still, left_now}
 use Rattle.duties.proofs.Delivering.{lowered_ways}
 use Rattle.duties.proofs.Given.{opening_at, linking_at, opened_one, its_open, its_link, its_close, tasks_few, accesses_few, total_few, row_fits, end_within, most_pending, pending_few}

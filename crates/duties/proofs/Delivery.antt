@@ -23,7 +23,7 @@ use Rattle.memory.specs.ShareLaws.{adds_count_lem, mail_count_lem}
 use Rattle.memory.specs.RowLaws.{flags_set}
 use Rattle.memory.specs.declared.share.Letter.{Letter}
 use Rattle.duties.specs.FromTasks.{task_within, message_fits, counted_waits}
-use Rattle.tasks.specs.Promise.{flags_once}
+use Rattle.tasks.proofs.Promise.{flags_once}
 use Rattle.duties.proofs.Held.{own_stored, stored_now, pending_now, left_now}
 use Rattle.duties.proofs.Flagging.{number_small}
 use Rattle.duties.proofs.Delivering.{lowered_out, lowered_ways, passed_one}

@@ -16,7 +16,7 @@ use Rattle.memory.specs.Rows.{task_number, access_number, TaskRows}
 use Rattle.memory.specs.Shares.{Stored}
 use Rattle.memory.specs.Memory.{TaskMemory, memory, notices, Able, HeldAfter, its_duty}
 use Rattle.memory.specs.declared.share.Letter.{Letter}
-use Rattle.tasks.specs.Promise.{reader_one}
+use Rattle.tasks.proofs.Promise.{reader_one}
 use Rattle.duties.proofs.Given.{notices_one, most_pending, pending_few}
 use Rattle.duties.proofs.Telling.{with_pending}
 use Rattle.duties.proofs.Delivery as D

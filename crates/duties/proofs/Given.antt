@@ -18,7 +18,7 @@ use Rattle.memory.specs.Codes.{Coded, Making}
 use Rattle.memory.specs.Rows.{access_number}
 use Rattle.memory.specs.Memory.{TaskMemory, Long, Fit, Able, notices, its_duty, its_creating}
 use Rattle.duties.specs.FromTasks.{first_last, first_within, mail_after, adds_after}
-use Rattle.tasks.specs.Promise.{first_zero, first_suc, flags_once}
+use Rattle.tasks.proofs.Promise.{first_zero, first_suc, flags_once}
 use Rattle.duties.proofs.Flagging.{number_small}
 
 -- where a worker stands, from its number

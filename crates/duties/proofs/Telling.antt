@@ -15,7 +15,7 @@ use Rattle.memory.specs.Shares.{Stored}
 use Rattle.memory.specs.Memory.{TaskMemory, memory, notices, Able, HeldAfter, its_duty}
 use Rattle.memory.specs.declared.tally.Tally.{Tally}
 use Rattle.memory.specs.RowLaws.{flags_set}
-use Rattle.tasks.specs.Promise.{notice_once}
+use Rattle.tasks.proofs.Promise.{notice_once}
 use Rattle.duties.proofs.Held.{own_stored, stored_still, pending_still}
 use Rattle.duties.proofs.Given.{telling_at, its_tell, accesses_few, access_fits, row_flags, row_small, pending_here}
 

@@ -25,7 +25,7 @@ use Rattle.memory.specs.declared.tally.Tally.{Tally}
 use Rattle.memory.specs.ShareLaws.{mail_count_lem}
 use Rattle.memory.specs.RowLaws.{status_set, runner_set, receipt_set, ending_set}
 use Rattle.duties.specs.FromTasks.{working_within, given_within, held_within}
-use Rattle.tasks.specs.Promise.{first_suc, numbers_length, done_length}
+use Rattle.tasks.proofs.Promise.{first_suc, numbers_length, done_length}
 use Rattle.duties.proofs.Held.{own_stored, stored_now, stored_still, pending_now, pending_still, left_now}
 use Rattle.duties.proofs.Given.{working_at, its_work, its_end, tasks_few, total_few, row_fits, end_within, most_pending, pending_few}
 

@@ -7,8 +7,8 @@ use Rattle.tasks.specs.Accesses.{task_at, task_of, first, total}
 use Rattle.tasks.specs.Flags.{Flags, with, passes_read, passes_write, Once}
 use Rattle.tasks.specs.Tasks.{Message, Stand, working, new, waiting, ready, held, running, opening, linking, Tasks, given}
 use Rattle.tasks.specs.History.{Op, Can, after}
-use Rattle.tasks.specs.Promise as Promise
-use Rattle.tasks.specs.Promise.{Kept}
+use Rattle.tasks.proofs.Promise as Promise
+use Rattle.tasks.proofs.Promise.{Kept}
 
 -- what passes on rises with the flags
 pub reads_more : (q : ℕ) (e m : Flags) → passes_read q e ≤ passes_read q (with e m)

@@ -15,7 +15,7 @@ use Rattle.lock.specs.declared.Looked.{Looked}
 use Rattle.plan.specs.Plan.{Task}
 use Rattle.tasks.specs.Tasks as TT
 use Rattle.memory.specs.Layout as numbers
-use Rattle.tasks.specs.Promise.{of_the_plan}
+use Rattle.tasks.proofs.Promise.{of_the_plan}
 use Rattle.tasks.specs.History as Th
 use Rattle.memory.specs.Memory as T
 use Rattle.machine.specs.State.{for_serving, for_adding, idle, registering, looking, draining}

@@ -7,7 +7,7 @@ use Rattle.runs.proofs.Traces as Traces
 use Rattle.runs.specs.Traces.{workers_of}
 use Rattle.plan.specs.Chains.{Chain, chain_cost, last_of, last_below_lem}
 use Rattle.tasks.specs.Tasks.{over}
-use Rattle.tasks.specs.Playing as P
+use Rattle.tasks.proofs.Playing as P
 use Rattle.machine.specs.State.{Setup, State, start}
 use Rattle.machine.specs.Event.{event}
 use Rattle.machine.specs.Step.{task_op, step, finished, after}

@@ -12,7 +12,7 @@ use Rattle.plan.specs.Accepted.{MaskFormed}
 use Rattle.tasks.specs.Accesses.{task_at}
 use Rattle.tasks.specs.History.{Duty}
 use Rattle.tasks.specs.Playing as P
-use Rattle.tasks.specs.Promise as Tasks
+use Rattle.tasks.proofs.Promise as Tasks
 use Rattle.machine.specs.State.{Setup, Place, idle, trying, registering, looking, draining, serving, handing, leaving, State, start, picked}
 use Rattle.machine.specs.Event.{Handed, Event, most_served, handed_by, idling, choice, taking, serving_with, serving_or_taking, standing_at, event}
 use Rattle.machine.specs.Ready.{Choice, nothing, chosen}

@@ -33,8 +33,9 @@ use Rattle.tasks.specs.Tasks.{linking, ready, held, running, over, Creation, ope
 use Rattle.tasks.specs.Tasks.{is_ended, opened, until_closed, to_add, unsatisfied}
 use Rattle.tasks.specs.History as H
 use Rattle.tasks.specs.Playing as P
+use Rattle.tasks.proofs.Playing as PLaws
 use Rattle.tasks.specs.Playing.{has_notice}
-use Rattle.tasks.specs.Promise as Promise
+use Rattle.tasks.proofs.Promise as Promise
 use Rattle.machine.specs.State.{Setup, State, start}
 use Rattle.machine.specs.Event.{Event, may, event}
 use Rattle.machine.specs.Step.{task_op, step, finished, pick, after}
@@ -51,7 +52,7 @@ use Rattle.machine.specs.Safety.Invariant.{Playable, Inv, may_do, inv_after}
 step_to_add : (c : Setup) (s : State) (w i : ℕ) → 0 < s.tasks.count i → (step c s w).tasks.count i ≡ 0
     → (step c s w).tasks.adds ≡ upd s.tasks.adds w (s.tasks.adds w ++ i ∷ [])
 unfolding step
-step_to_add c s w i = P.has_to_add_by c.tasks (suc s.picks) s.tasks w (task_op (event c s w)) i
+step_to_add c s w i = PLaws.has_to_add_by c.tasks (suc s.picks) s.tasks w (task_op (event c s w)) i
 
 pick_to_add : (c : Setup) (s : State) (w i : ℕ) → 0 < s.tasks.count i → (pick c s w).tasks.count i ≡ 0
     → (pick c s w).tasks.adds ≡ upd s.tasks.adds w (s.tasks.adds w ++ i ∷ [])
@@ -65,7 +66,7 @@ pick_to_add c s w i l = go (finished c s) refl
 -- another worker's mailbox: after a step, and after a pick
 step_mail : (c : Setup) (s : State) (w u : ℕ) → u ≢ w → (step c s w).tasks.mail u ≡ s.tasks.mail u
 unfolding step
-step_mail c s w u k = (P.others_by c.tasks (suc s.picks) s.tasks w (task_op (event c s w)) u k).0
+step_mail c s w u k = (PLaws.others_by c.tasks (suc s.picks) s.tasks w (task_op (event c s w)) u k).0
 
 pick_mail : (c : Setup) (s : State) (w u : ℕ) → u ≢ w → (pick c s w).tasks.mail u ≡ s.tasks.mail u
 pick_mail c s w u k = go (finished c s) refl
@@ -212,7 +213,7 @@ module _ (c : Setup) (playable : Playable c) (ws : List ℕ) (p : Picks c.worker
       go (linking _ _) e l = elim l [ ]
       go (opening n) e l =
           let all = Promise.nothing_stuck (inv_after c playable ws p).tasked n e l (λ w b. (silent w b).0) still in
-          (all, P.finished_if c.workers c.tasks (after c ws).tasks (after c ws).stand all silent)
+          (all, PLaws.finished_if c.workers c.tasks (after c ws).tasks (after c ws).stand all silent)
 
   -- the picks counted are the events of the trace, and no more than the list has
   pub picks_counted : ((after c ws).picks ≡ length (trace c (start c) ws)) × (length (trace c (start c) ws) ≤ length ws)

@@ -11,7 +11,7 @@ use Rattle.lock.specs.Lock as L
 use Rattle.plan.specs.Chains.{conflict}
 use Rattle.tasks.specs.Accesses.{task_at}
 use Rattle.tasks.specs.Tasks.{ready, held, running, over, past_waiting}
-use Rattle.tasks.specs.Playing as P
+use Rattle.tasks.proofs.Playing as P
 use Rattle.machine.specs.State.{Setup, looking, State, start}
 use Rattle.machine.specs.Event.{registers, may, event}
 use Rattle.machine.specs.Step.{step, finished, pick, after}

@@ -7,7 +7,7 @@ use Rattle.runs.specs.Counts.{one}
 use Rattle.plan.specs.Plan.{Task}
 use Rattle.tasks.specs.Accesses.{task_at}
 use Rattle.tasks.specs.Tasks.{Stand, free, telling, working, Status, is_over, Tasks}
-use Rattle.tasks.specs.Promise.{Kept}
+use Rattle.tasks.proofs.Promise.{Kept}
 use Rattle.tasks.specs.History.{Duty, Op, minds, Can, after, stand_after}
 use Rattle.tasks.specs.Duties.{duty, creating}
 use Rattle.memory.specs.Layout as layout

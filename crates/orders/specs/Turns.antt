@@ -6,7 +6,7 @@ use Rattle.runs.specs.Apart.{InTurn, in_turn_take, in_turn_append}
 use Rattle.plan.specs.Plan.{Order, picks, rounds, seeded, Plan}
 use Rattle.plan.specs.Orders.{numbers_from, times, picks_of_all, OnlyRounds, picks_up_to}
 use Rattle.picks.specs.LineLaws.{count_picks}
-use Rattle.tasks.specs.Promise.{numbers_length}
+use Rattle.tasks.proofs.Promise.{numbers_length}
 
 numbers_at : (k n i : ℕ) → i < n → pick (numbers_from k n) i ≡ k + i
 unfolding numbers_from

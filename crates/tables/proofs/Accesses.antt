@@ -8,7 +8,7 @@ use lib.ListN.{length}
 use Rattle.plan.specs.Plan.{Plan, Task}
 use Rattle.plan.specs.Reading.{reading, accepted}
 use Rattle.tasks.specs.Accesses.{first, total}
-use Rattle.tasks.specs.Promise.{first_zero, first_all}
+use Rattle.tasks.proofs.Promise.{first_zero, first_all}
 use Rattle.kept.specs.declared.tasks.Row.{Row}
 use Rattle.kept.specs.Tasks.{row_at, HasTasks}
 use Rattle.memory.specs.Layout as layout

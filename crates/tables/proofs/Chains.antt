@@ -14,7 +14,7 @@ use Rattle.plan.specs.Plan.{Task}
 use Rattle.runs.specs.Searches.{last_below, last_same}
 use Rattle.tasks.specs.Accesses.{total, addr, task_of, reader, same_address, prev, next}
 use Rattle.tasks.specs.Flags.{no_flag}
-use Rattle.tasks.specs.Promise.{prev_some, next_le, next_is, prev_next, next_prev}
+use Rattle.tasks.proofs.Promise.{prev_some, next_le, next_is, prev_next, next_prev}
 use Rattle.memory.specs.Layout as layout
 use Rattle.memory.specs.Codes.{option_code}
 use Rattle.memory.specs.Rows.{Column, AccessRows, new_access, with_access}

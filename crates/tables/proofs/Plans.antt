@@ -12,7 +12,7 @@ use Rattle.plan.specs.Reading.{reading, accepted}
 use Rattle.plan.specs.Accepted.{WellFormed}
 use Rattle.plan.proofs.Accepted.{accepted_well_formed}
 use Rattle.tasks.specs.Accesses.{no_task, no_access, accesses, task_at, access_at, first, reader}
-use Rattle.tasks.specs.Promise.{first_suc, first_all, first_mono, of_task}
+use Rattle.tasks.proofs.Promise.{first_suc, first_all, first_mono, of_task}
 use Rattle.kept.specs.declared.tasks.Row.{Row}
 use Rattle.kept.specs.declared.tasks.Touch.{Touch}
 use Rattle.plan.specs.PassFields.{bit}

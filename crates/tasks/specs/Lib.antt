@@ -4,6 +4,5 @@ pub mod Tasks
 pub mod History
 pub mod Duties
 pub mod Played
-mod Inside
-pub mod Promise
+pub mod Inside
 pub mod Playing

@@ -3,8 +3,8 @@ use Rattle.std.specs.Prelude.{ℕ, suc, ◌<◌, ◌≡◌, ◌⊎◌, ◌≢◌
 use Rattle.std.proofs.Common.{sym, inl, inr, ⊎_elim}
 use Rattle.runs.specs.Update.{same, upd, upd_same}
 use Rattle.tasks.specs.Tasks.{Creation}
-use Rattle.tasks.specs.Playing as P
-use Rattle.tasks.specs.Promise as Promise
+use Rattle.tasks.proofs.Playing as P
+use Rattle.tasks.proofs.Promise as Promise
 use Rattle.machine.specs.State.{Setup, for_serving, for_adding, Place, idle, trying, registering, looking, draining, serving, handing, leaving, State, start}
 use Rattle.machine.specs.Event.{Event}
 use Rattle.machine.specs.Step.{task_op, after_draining, next_drain, apply}

@@ -17,9 +17,9 @@ use Rattle.machine.specs.Figures.{factor, per_progress, finishing_figure}
 use Rattle.machine.specs.Safety.Invariant.{Playable, Inv, inv_start, inv_step, inv_picked}
 use Rattle.machine.specs.Safety.Traces.{pick_finished, pick_open, pick_keeps, run_finished, picks_taken, taken_within}
 use Rattle.tasks.specs.Tasks as T
-use Rattle.tasks.specs.Promise as Tasks
-use Rattle.tasks.specs.Promise.{total, total_cost}
-use Rattle.tasks.specs.Playing as P
+use Rattle.tasks.proofs.Promise as Tasks
+use Rattle.tasks.proofs.Promise.{total, total_cost}
+use Rattle.tasks.proofs.Playing as P
 use Rattle.machine.specs.Progress.Quiet.{work, gain, work_start, work_falls, gains_or_quiet}
 use Rattle.machine.specs.Progress.Creating.{CreatesFirst, creates_start, creates_keep}
 use Rattle.machine.specs.Progress.Helpful.{to_turn, Helpful, prompt, hands_on_lem, takes_along, eager, leads_to, leads_past, near, seeks, leads_before}

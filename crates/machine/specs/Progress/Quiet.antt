@@ -6,10 +6,10 @@ use Rattle.runs.specs.Sums.{sum, sum_upd, sum_const}
 use Rattle.lock.specs.Lock as L
 use Rattle.lock.specs.History as LH
 use Rattle.tasks.specs.History as H
-use Rattle.tasks.specs.Playing as P
+use Rattle.tasks.proofs.Playing as P
 use Rattle.tasks.specs.Playing.{by}
-use Rattle.tasks.specs.Promise as Tasks
-use Rattle.tasks.specs.Promise.{work_left, to_give, total_cost, total}
+use Rattle.tasks.proofs.Promise as Tasks
+use Rattle.tasks.proofs.Promise.{work_left, to_give, total_cost, total}
 use Rattle.machine.specs.State.{Setup, Purpose, trying, registering, looking, draining, serving, handing, leaving, State, start}
 use Rattle.machine.specs.Event.{Event, minds, pushes, finds_full, tries_and_owns, tries_in_vain, takes_ticket, registers, waits, receives, owns, drains, fills, takes, takes_none, hands_over, leaves, may, handed_by}
 use Rattle.machine.specs.Ready.{nothing, choose, arrive_none}

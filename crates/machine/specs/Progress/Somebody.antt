@@ -9,9 +9,9 @@ use Rattle.lock.proofs.Promise as Promise
 use Rattle.plan.specs.Permits.{any_masked}
 use Rattle.tasks.specs.Tasks as T
 use Rattle.tasks.specs.Tasks.{Message, Status, ready, held, running, over, Creation, opening, linking, is_ready, is_held, is_running, in_hand, to_add}
-use Rattle.tasks.specs.Playing as P
+use Rattle.tasks.proofs.Playing as P
 use Rattle.tasks.specs.Playing.{has_notice}
-use Rattle.tasks.specs.Promise as Tasks
+use Rattle.tasks.proofs.Promise as Tasks
 use Rattle.machine.specs.State.{Setup, for_serving, for_adding, Place, idle, trying, registering, looking, draining, serving, handing, leaving, State}
 use Rattle.machine.specs.Event.{Event, event}
 use Rattle.machine.specs.Step.{finished}

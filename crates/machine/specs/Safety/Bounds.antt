@@ -5,8 +5,8 @@ use Rattle.runs.specs.Counts.{count}
 use Rattle.runs.specs.Update.{upd_all}
 use Rattle.lock.proofs.Promise as Lock
 use Rattle.tasks.specs.Accesses.{task_at}
-use Rattle.tasks.specs.Playing as P
-use Rattle.tasks.specs.Promise as Promise
+use Rattle.tasks.proofs.Playing as P
+use Rattle.tasks.proofs.Promise as Promise
 use Rattle.machine.specs.State.{Setup, State, start, picked}
 use Rattle.machine.specs.Event.{Event, event}
 use Rattle.machine.specs.Step.{task_op, apply, step}

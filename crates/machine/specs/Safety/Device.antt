@@ -9,7 +9,7 @@ use Rattle.lock.specs.History as LH
 use Rattle.tasks.specs.Tasks as T
 use Rattle.tasks.specs.Tasks.{Message, held, stage, is_held, given}
 use Rattle.tasks.specs.Playing.{has_notice}
-use Rattle.tasks.specs.Promise as Promise
+use Rattle.tasks.proofs.Promise as Promise
 use Rattle.machine.specs.State.{Setup, Purpose, for_serving, for_adding, Place, idle, trying, registering, looking, draining, serving, handing, leaving, State, start}
 use Rattle.machine.specs.Whereabouts.{lock_stand, boxed, in_cell, stored, boxes}
 use Rattle.machine.specs.Safety.Locked.{waits_at}

@@ -5,8 +5,8 @@ use Rattle.tasks.specs.Accesses.{total, task_of, addr, reader}
 use Rattle.tasks.specs.Flags.{Flags, each, sent, with, Once, NoneTwice}
 use Rattle.tasks.specs.Tasks.{Message, telling, over}
 use Rattle.tasks.specs.History as H
-use Rattle.tasks.specs.Playing as P
-use Rattle.tasks.specs.Promise as Promise
+use Rattle.tasks.proofs.Playing as P
+use Rattle.tasks.proofs.Promise as Promise
 use Rattle.machine.specs.State.{Setup, State, start}
 use Rattle.machine.specs.Event.{minds, event}
 use Rattle.machine.specs.Step.{task_op, after}

@@ -17,7 +17,8 @@ use Rattle.tasks.specs.Accesses.{task_at}
 use Rattle.tasks.specs.Tasks.{working, Status, ready, held, running, stage, is_held, is_received}
 use Rattle.tasks.specs.History as Th
 use Rattle.tasks.specs.Playing as P
-use Rattle.tasks.specs.Promise as Promise
+use Rattle.tasks.proofs.Playing as PLaws
+use Rattle.tasks.proofs.Promise as Promise
 use Rattle.machine.specs.State.{Setup, Place, looking, serving, State, start, picked}
 use Rattle.machine.specs.Event.{Handed, Event, receives, fills, takes, handed_by, event}
 use Rattle.machine.specs.Ready.{chosen_listed}
@@ -222,7 +223,7 @@ module _ (c : Setup) (i : ℕ) (s : State) (inv : Inv c s) (w : ℕ) (hw : w < c
       keeps : GaveAt c i s hs → GaveAt c i (apply c s w e) (more hs w e)
       keeps (unheld z r u) =
           unheld
-          (omega (arith, P.held_by inv.tasked w hw s.picks (task_op e) (may_do c s inv w hw d) i))
+          (omega (arith, PLaws.held_by inv.tasked w hw s.picks (task_op e) (may_do c s inv w hw d) i))
           (omega (arith, tally_more w e (is_receipt i) hs))
           (rw same_giver (ungiven_more i w e (omega arith) (omega arith) u))
       keeps (in_front v b k u) =

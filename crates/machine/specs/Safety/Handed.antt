@@ -9,7 +9,7 @@ use Rattle.lock.specs.Lock as L
 use Rattle.lock.specs.History as LH
 use Rattle.lock.proofs.Promise as Lock
 use Rattle.tasks.specs.Tasks as T
-use Rattle.tasks.specs.Promise as Promise
+use Rattle.tasks.proofs.Promise as Promise
 use Rattle.machine.specs.State.{Setup, State}
 use Rattle.machine.specs.Event.{Handed, found, handed, handed_by}
 use Rattle.machine.specs.Whereabouts.{lock_stand}

@@ -14,6 +14,7 @@ use Rattle.tasks.specs.Accesses.{task_at}
 use Rattle.tasks.specs.Tasks.{over, is_received, is_ended}
 use Rattle.tasks.specs.History as Th
 use Rattle.tasks.specs.Playing as P
+use Rattle.tasks.proofs.Playing as PLaws
 use Rattle.machine.specs.State.{Setup, Place, State, start, picked}
 use Rattle.machine.specs.Event.{event}
 use Rattle.machine.specs.Step.{lock_op, task_op, lock_after, step, finished, after}
@@ -84,32 +85,32 @@ module _ (c : Setup) (playable : Playable c) where
         Th.History c.workers c.tasks (P.moves task_op 0 (trace c (start c) ws)) (after c ws).tasks (after c ws).stand
     unfolding after start
     task_history =
-        P.plays task_op (finished c) (step c) (event c) (λ s. s.picks) (λ s. s.tasks) (λ s. s.stand) c.workers c.tasks (Inv c)
+        PLaws.plays task_op (finished c) (step c) (event c) (λ s. s.picks) (λ s. s.tasks) (λ s. s.stand) c.workers c.tasks (Inv c)
         (inv_step c playable) may_step (step_picks c) tasks_step stands_step ws p (start c) (inv_start c playable)
 
     module _ (i : ℕ) where
       pub receipts : Trace.tally (Trace.is_receipt i) (trace c (start c) ws) ≡ is_received ((after c ws).tasks.status i)
-      receipts = P.receipts task_op playable.distinct (trace c (start c) ws) task_history i
+      receipts = PLaws.receipts task_op playable.distinct (trace c (start c) ws) task_history i
 
       pub endings : Trace.tally (Trace.is_ending i) (trace c (start c) ws) ≡ is_ended ((after c ws).tasks.status i)
-      endings = P.endings task_op playable.distinct (trace c (start c) ws) task_history i
+      endings = PLaws.endings task_op playable.distinct (trace c (start c) ws) task_history i
 
       pub worked : Trace.tally (Trace.is_work i) (trace c (start c) ws) + left_in_hands c (after c ws) i
           ≡ Trace.tally (Trace.is_receipt i) (trace c (start c) ws) * (task_at c.tasks i).cost
-      worked = P.worked task_op playable.distinct (trace c (start c) ws) task_history i
+      worked = PLaws.worked task_op playable.distinct (trace c (start c) ws) task_history i
 
       pub works_exactly : (after c ws).tasks.status i ≡ over
           → Trace.tally (Trace.is_work i) (trace c (start c) ws) ≡ (task_at c.tasks i).cost
-      works_exactly = P.works_exactly task_op playable.distinct (trace c (start c) ws) task_history i
+      works_exactly = PLaws.works_exactly task_op playable.distinct (trace c (start c) ws) task_history i
 
       pub receipt_by : (k : ℕ) (h : Happening) → get_elem? (trace c (start c) ws) k ≡ some h → 0 < Trace.is_receipt i h.what
           → ((after c ws).tasks.runner i ≡ h.by) × ((after c ws).tasks.receipt i ≡ suc k)
-      receipt_by = P.receipt_by task_op playable.distinct (trace c (start c) ws) task_history i
+      receipt_by = PLaws.receipt_by task_op playable.distinct (trace c (start c) ws) task_history i
 
       pub ending_by : (k : ℕ) (h : Happening) → get_elem? (trace c (start c) ws) k ≡ some h → 0 < Trace.is_ending i h.what
           → ((after c ws).tasks.runner i ≡ h.by) × ((after c ws).tasks.ending i ≡ suc k)
-      ending_by = P.ending_by task_op playable.distinct (trace c (start c) ws) task_history i
+      ending_by = PLaws.ending_by task_op playable.distinct (trace c (start c) ws) task_history i
 
       pub noted : ((after c ws).tasks.runner i < c.workers) × ((after c ws).tasks.receipt i ≤ length (trace c (start c) ws))
           × ((after c ws).tasks.ending i ≤ length (trace c (start c) ws))
-      noted = P.noted task_op playable.distinct (trace c (start c) ws) task_history i playable.workers
+      noted = PLaws.noted task_op playable.distinct (trace c (start c) ws) task_history i playable.workers

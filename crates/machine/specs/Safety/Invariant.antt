@@ -3,7 +3,7 @@ use Rattle.std.specs.Prelude.{ℕ, ◌≤◌, ◌<◌, ◌≡◌, true, List, le
 use Rattle.runs.specs.Picks.{Picks, run}
 use Rattle.tasks.specs.Accesses.{Distinct}
 use Rattle.tasks.specs.Playing as P
-use Rattle.tasks.specs.Promise as Promise
+use Rattle.tasks.proofs.Promise as Promise
 use Rattle.machine.specs.State.{Setup, State, start, picked}
 use Rattle.machine.specs.Event.{Event, may}
 use Rattle.machine.specs.Step.{task_op, apply, step, pick, after}

@@ -13,8 +13,9 @@ use Rattle.tasks.specs.Tasks as T
 use Rattle.tasks.specs.Tasks.{Message}
 use Rattle.tasks.specs.History as H
 use Rattle.tasks.specs.Playing as P
+use Rattle.tasks.proofs.Playing as PLaws
 use Rattle.tasks.specs.Playing.{by, has_notice}
-use Rattle.tasks.specs.Promise as Promise
+use Rattle.tasks.proofs.Promise as Promise
 use Rattle.machine.specs.State.{Setup, Purpose, for_serving, for_adding, Place, idle, trying, registering, looking, draining, serving, handing, leaving, State}
 use Rattle.machine.specs.Event.{Event, tries_and_owns, takes_ticket, registers, receives, owns, hands_over, leaves, fills, handed_by}
 use Rattle.machine.specs.Ready.{chosen_listed, chosen_count, arrive_count}
@@ -250,19 +251,19 @@ module _ (c : Setup) (s : State) (locked : Locked c s.lock s.place) (v : Tasked 
   keeps_fits {e} d =
       upd_all (λ u x. Fits c x ((apply c s w e).stand u) ((apply c s w e).tasks.mail u) ((apply c s w e).tasks.adds u)) s.place w
       (effect c s w e).place (fits_own d)
-      (λ u n. let (a, b) = P.others_by c.tasks s.picks s.tasks w (task_op e) u n in
-      rw (a, b, P.stands_others c.tasks s.stand w (task_op e) u n) (h.fits u))
+      (λ u n. let (a, b) = PLaws.others_by c.tasks s.picks s.tasks w (task_op e) u n in
+      rw (a, b, PLaws.stands_others c.tasks s.stand w (task_op e) u n) (h.fits u))
 
   -- ---- the theorems
 
   module _ {e : Event} (d : Does c s w e) where
     pub tasked_keep : Tasked c (apply c s w e).tasks (apply c s w e).stand
-    tasked_keep = P.kept_by v w hw s.picks (task_op e) (task_may d)
+    tasked_keep = PLaws.kept_by v w hw s.picks (task_op e) (task_may d)
 
     pub device_keep : Device c (apply c s w e)
     device_keep =
         record {
-          stored = λ i. omega (arith, h.stored i, stored_after_lem d i, P.given_by v w hw s.picks (task_op e) (task_may d) i);
-          boxes = λ i. omega (arith, h.boxes i, boxes_after d i, P.held_by v w hw s.picks (task_op e) (task_may d) i);
+          stored = λ i. omega (arith, h.stored i, stored_after_lem d i, PLaws.given_by v w hw s.picks (task_op e) (task_may d) i);
+          boxes = λ i. omega (arith, h.boxes i, boxes_after d i, PLaws.held_by v w hw s.picks (task_op e) (task_may d) i);
           fits = keeps_fits d;
         }

@@ -15,13 +15,13 @@ use Rattle.tasks.specs.Accesses.{task_at, task_of, first}
 use Rattle.tasks.specs.History.{Op, lowered, delivered, newly_satisfied, notice_of, after, stand_after, Can, can_mind, can_open}
 use Rattle.tasks.specs.History.{can_link, can_close, can_deliver, can_tell, can_give, can_hold, can_take, can_receive, can_work}
 use Rattle.tasks.specs.History.{can_end, gave, took}
-use Rattle.tasks.specs.Inside.LinkLaws.{Links}
-use Rattle.tasks.specs.Inside.Statuses.{at_stage_lem}
-use Rattle.tasks.specs.Inside.Lowered.{lowered_cases, lowered_runner, lowered_mail}
-use Rattle.tasks.specs.Inside.Messages.{messages_start}
-use Rattle.tasks.specs.Inside.MessagesKept.{messages_keep}
-use Rattle.tasks.specs.Inside.Counting.{Counts, counting_start, counting_keep, counts_waiting, given_ready}
-use Rattle.tasks.specs.Inside.Invariant.{Busy, Inv}
+use Rattle.tasks.proofs.Inside.LinkLaws.{Links}
+use Rattle.tasks.proofs.Inside.Statuses.{at_stage_lem}
+use Rattle.tasks.proofs.Inside.Lowered.{lowered_cases, lowered_runner, lowered_mail}
+use Rattle.tasks.proofs.Inside.Messages.{messages_start}
+use Rattle.tasks.proofs.Inside.MessagesKept.{messages_keep}
+use Rattle.tasks.proofs.Inside.Counting.{Counts, counting_start, counting_keep, counts_waiting, given_ready}
+use Rattle.tasks.proofs.Inside.Invariant.{Busy, Inv}
 
 -- ---- the start
 

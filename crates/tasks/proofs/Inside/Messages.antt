@@ -12,11 +12,11 @@ use Rattle.tasks.specs.Tasks.{is_over, is_ended, Made, Sound, Message, Stand, fr
 use Rattle.tasks.specs.Tasks.{linking, Tasks, start, linked}
 use Rattle.tasks.specs.Flags.{Once, NoneTwice, RightsOnly, Flags, granting, no_flag, sent, with}
 use Rattle.tasks.specs.Accesses.{task_of, first, reader, prev, next, total}
-use Rattle.tasks.specs.Inside.LinkLaws.{Links}
-use Rattle.tasks.specs.Inside.Rights.{Right, to_read, to_write, granted, sent_of, passes, passes_next, passes_none, granted_none}
-use Rattle.tasks.specs.Inside.Rights.{sent_granting}
-use Rattle.tasks.specs.Inside.Underway.{here_same, toward, out_of, under_way, way_empty, way_carried, way_two, way_apart, tells}
-use Rattle.tasks.specs.Inside.Underway.{pending}
+use Rattle.tasks.proofs.Inside.LinkLaws.{Links}
+use Rattle.tasks.proofs.Inside.Rights.{Right, to_read, to_write, granted, sent_of, passes, passes_next, passes_none, granted_none}
+use Rattle.tasks.proofs.Inside.Rights.{sent_granting}
+use Rattle.tasks.proofs.Inside.Underway.{here_same, toward, out_of, under_way, way_empty, way_carried, way_two, way_apart, tells}
+use Rattle.tasks.proofs.Inside.Underway.{pending}
 
 abbrev pub All : (Message → Type 0) → List Message → Type 0
 All P [] = Unit {0}

@@ -16,23 +16,24 @@ use Rattle.tasks.specs.Tasks.{Tasks, start, with_adds, with_count, with_status, 
 use Rattle.tasks.specs.Tasks.{is_received, is_ended, opened, linked, in_hand, left_in_hand, to_add, given}
 use Rattle.tasks.specs.History.{Op, gives, Can, lowered, done_messages, after, stand_after, gave, took, held_out, fetched, is_receipt}
 use Rattle.tasks.specs.History.{is_ending, is_work, brings, is_give, quiet, Move, Run, tally, Spaced, History}
-use Rattle.tasks.specs.Inside.Statuses as statuses
-use Rattle.tasks.specs.Inside.Links as links
-use Rattle.tasks.specs.Inside.Rights as rights
-use Rattle.tasks.specs.Inside.Lowered as counts
-use Rattle.tasks.specs.Inside.Messages as messages
-use Rattle.tasks.specs.Inside.Counting as counting
-use Rattle.tasks.specs.Inside.Order as ordering
-use Rattle.tasks.specs.Inside.Stuck as stuck
-use Rattle.tasks.specs.Inside.Invariant.{Inv}
-use Rattle.tasks.specs.Inside.Keeps as keeps
-use Rattle.tasks.specs.Inside.Lists as lists
-use Rattle.tasks.specs.Inside.Stories as stories
+use Rattle.tasks.proofs.Inside.Statuses as statuses
+use Rattle.tasks.proofs.Inside.Links as links
+use Rattle.tasks.proofs.Inside.Rights as rights
+use Rattle.tasks.proofs.Inside.Lowered as counts
+use Rattle.tasks.proofs.Inside.Messages as messages
+use Rattle.tasks.proofs.Inside.Counting as counting
+use Rattle.tasks.proofs.Inside.Order as ordering
+use Rattle.tasks.proofs.Inside.Stuck as stuck
+use Rattle.tasks.proofs.Inside.Invariant.{Inv}
+use Rattle.tasks.proofs.Inside.Keeps as keeps
+use Rattle.tasks.proofs.Inside.Lists as lists
+use Rattle.tasks.proofs.Inside.Stories as stories
 use Rattle.tasks.specs.Inside.Work as work
-use Rattle.tasks.specs.Inside.Histories as histories
-use Rattle.tasks.specs.Inside.Brought as came
-use Rattle.tasks.specs.Inside.Worked as labour
-use Rattle.tasks.specs.Inside.Spans as spans
+use Rattle.tasks.proofs.Inside.Work as work_laws
+use Rattle.tasks.proofs.Inside.Histories as histories
+use Rattle.tasks.proofs.Inside.Brought as came
+use Rattle.tasks.proofs.Inside.Worked as labour
+use Rattle.tasks.proofs.Inside.Spans as spans
 -- the words of the laws
 pub use Rattle.tasks.specs.Accesses.{total, addr, total_cost, Distinct}
 pub use Rattle.tasks.specs.Flags.{Once, NoneTwice, RightsOnly}
@@ -47,7 +48,7 @@ pub work_left : ℕ → List Task → Tasks → (ℕ → Stand) → ℕ
 work_left = work.work_left
 
 pub to_give : ℕ → List Task → Tasks → ℕ
-to_give = work.to_give
+to_give = work_laws.to_give
 
 -- ---- the start
 
@@ -69,11 +70,11 @@ start_given W i = omega arith
 -- 7 operations for each access, 6 for each task, and the steps of work that the tasks cost
 pub work_start : (W : ℕ) (ts : List Task) → work_left W ts start (λ _. free) ≡ 7 * total ts + 6 * length ts + total_cost ts
 unfolding work_left
-work_start = work.work_start
+work_start = work_laws.work_start
 
 pub gives_start : (W : ℕ) (ts : List Task) → to_give W ts start ≡ length ts
 unfolding to_give
-gives_start = work.gives_start
+gives_start = work_laws.gives_start
 
 module _ {W : ℕ} {ts : List Task} {t : Tasks} {st : ℕ → Stand} (v : Kept W ts t st) where
   -- ---- messages and flags
@@ -235,12 +236,12 @@ module _ {W : ℕ} {ts : List Task} {t : Tasks} {st : ℕ → Stand} (v : Kept W
     -- every operation takes at least 1 of the work that is left
     pub work_less : suc (work_left W ts (after ts time t w op) (upd st w (stand_after ts (st w) op))) ≤ work_left W ts t st
     unfolding work_left
-    work_less = work.work_falls W ts v.inv w hw time op can
+    work_less = work_laws.work_falls W ts v.inv w hw time op can
 
     -- each give is one less to come, and nothing else changes their number
     pub gives_fall : to_give W ts (after ts time t w op) + is_give op ≡ to_give W ts t
     unfolding to_give
-    gives_fall = work.gives_fall W ts v.inv w hw time can
+    gives_fall = work_laws.gives_fall W ts v.inv w hw time can
 
 -- what the device has is ready
 pub given_ready : (W : ℕ) (t : Tasks) (i : ℕ) → given W t i ≡ 1 → t.status i ≡ ready
@@ -250,7 +251,7 @@ given_ready = counting.given_ready
 pub no_work_over : (W : ℕ) (ts : List Task) (t : Tasks) (st : ℕ → Stand) → work_left W ts t st ≡ 0
     → (i : ℕ) → i < length ts → t.status i ≡ over
 unfolding work_left
-no_work_over = work.no_work_over
+no_work_over = work_laws.no_work_over
 
 module _ {W : ℕ} {ts : List Task} {t : Tasks} {x : Stand} {w : ℕ} {op : Op} (can : Can W ts t x w op) where
   -- what is received was ready or held

@@ -14,9 +14,9 @@ use Rattle.tasks.specs.History.{Op, minds, opens, links, closes, delivers, tells
 use Rattle.tasks.specs.History.{can_mind, can_open, can_link, can_close, can_deliver, can_tell, can_give, can_hold, can_take}
 use Rattle.tasks.specs.History.{can_receive, can_work, can_end, plain, lowered, passed, done_messages, delivered, newly_satisfied}
 use Rattle.tasks.specs.History.{after, quiet}
-use Rattle.tasks.specs.Inside.Lowered.{lowered_cases, lowered_to_add, lowered_mail, lowered_creation}
-use Rattle.tasks.specs.Inside.Underway.{passed_all}
-use Rattle.tasks.specs.Inside.Invariant.{Busy, Inv}
+use Rattle.tasks.proofs.Inside.Lowered.{lowered_cases, lowered_to_add, lowered_mail, lowered_creation}
+use Rattle.tasks.proofs.Inside.Underway.{passed_all}
+use Rattle.tasks.proofs.Inside.Invariant.{Busy, Inv}
 
 module _ (ts : List Task) (time : ℕ) (t : Tasks) (w : ℕ) where
   lowered_others : (r : Tasks) (i x : ℕ) → r.adds ≡ t.adds → (u : ℕ) → u ≢ w → (lowered r w i x).adds u ≡ t.adds u

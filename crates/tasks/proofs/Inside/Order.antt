@@ -10,14 +10,14 @@ use Rattle.plan.specs.Chains.{conflict}
 use Rattle.tasks.specs.Accesses.{no_access, task_of, task_at, access_at, first, reader, prev, total, addr}
 use Rattle.tasks.specs.Flags.{satisfied}
 use Rattle.tasks.specs.Tasks.{Stand, over, Tasks, linked, past_waiting}
-use Rattle.tasks.specs.Inside.Links.{access_of}
-use Rattle.tasks.specs.Inside.LinkLaws.{Links}
-use Rattle.tasks.specs.Inside.Statuses.{at_stage_lem}
-use Rattle.tasks.specs.Inside.Rights.{Right, to_read, to_write, granted, passes_granted, passes_read_done, passes_write_done}
-use Rattle.tasks.specs.Inside.Rights.{satisfied_le}
-use Rattle.tasks.specs.Inside.Underway.{toward, under_way}
-use Rattle.tasks.specs.Inside.Messages.{due, passing, Messages}
-use Rattle.tasks.specs.Inside.Counting.{Counts, Counting, released}
+use Rattle.tasks.proofs.Inside.Links.{access_of}
+use Rattle.tasks.proofs.Inside.LinkLaws.{Links}
+use Rattle.tasks.proofs.Inside.Statuses.{at_stage_lem}
+use Rattle.tasks.proofs.Inside.Rights.{Right, to_read, to_write, granted, passes_granted, passes_read_done, passes_write_done}
+use Rattle.tasks.proofs.Inside.Rights.{satisfied_le}
+use Rattle.tasks.proofs.Inside.Underway.{toward, under_way}
+use Rattle.tasks.proofs.Inside.Messages.{due, passing, Messages}
+use Rattle.tasks.proofs.Inside.Counting.{Counts, Counting, released}
 
 -- ---- two tasks that conflict have two accesses that do
 

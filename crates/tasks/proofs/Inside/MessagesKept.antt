@@ -13,19 +13,19 @@ use Rattle.tasks.specs.Flags.{Flags, granting, no_flag, DONE, NEXT, sent, with, 
 use Rattle.plan.specs.Plan.{Task}
 use Rattle.tasks.specs.Tasks.{is_ended, Made, Sound, Message, Stand, free, telling, working, Status, waiting, ready, held, running}
 use Rattle.tasks.specs.Tasks.{over, Creation, opening, linking, Tasks, is_running, opened, linked}
-use Rattle.tasks.specs.Inside.Messages.{unsent_of, All, all_append, Told, due, passing, MessagesOf, Messages, linked_within}
+use Rattle.tasks.proofs.Inside.Messages.{unsent_of, All, all_append, Told, due, passing, MessagesOf, Messages, linked_within}
 use Rattle.tasks.specs.History.{Op, plain, lowered, link_message, passed, done_messages, notice_of, after, stand_after, Can, can_mind}
 use Rattle.tasks.specs.History.{can_open, can_link, can_close, can_deliver, can_tell, can_give, can_hold, can_take, can_receive}
 use Rattle.tasks.specs.History.{can_work, can_end}
-use Rattle.tasks.specs.Inside.Lowered.{lowered_cases}
-use Rattle.tasks.specs.Inside.Counting.{Counts, counts_waiting, given_ready}
-use Rattle.tasks.specs.Inside.LinkLaws.{Links}
-use Rattle.tasks.specs.Inside.Rights.{Right, to_read, to_write, granted, sent_of, passes, passes_next, passes_with, passes_sent}
-use Rattle.tasks.specs.Inside.Rights.{granted_with, sent_with, granted_sent, sent_sent, granted_both, granted_done, granted_next}
+use Rattle.tasks.proofs.Inside.Lowered.{lowered_cases}
+use Rattle.tasks.proofs.Inside.Counting.{Counts, counts_waiting, given_ready}
+use Rattle.tasks.proofs.Inside.LinkLaws.{Links}
+use Rattle.tasks.proofs.Inside.Rights.{Right, to_read, to_write, granted, sent_of, passes, passes_next, passes_with, passes_sent}
+use Rattle.tasks.proofs.Inside.Rights.{granted_with, sent_with, granted_sent, sent_sent, granted_both, granted_done, granted_next}
 use Rattle.tasks.specs.History.{here}
-use Rattle.tasks.specs.Inside.Underway.{here_same, here_other, here_zero, upd_more, weigh, toward, by_sender, out_of, under_way}
-use Rattle.tasks.specs.Inside.Underway.{way_posted, way_posted_one, way_delivered, way_carried, pass_message, weigh_passed, passed_all}
-use Rattle.tasks.specs.Inside.Underway.{dones, weigh_dones, weigh_dones_none, tells, pending}
+use Rattle.tasks.proofs.Inside.Underway.{here_same, here_other, here_zero, upd_more, weigh, toward, by_sender, out_of, under_way}
+use Rattle.tasks.proofs.Inside.Underway.{way_posted, way_posted_one, way_delivered, way_carried, pass_message, weigh_passed, passed_all}
+use Rattle.tasks.proofs.Inside.Underway.{dones, weigh_dones, weigh_dones_none, tells, pending}
 
 -- ---- what one thing changed keeps
 

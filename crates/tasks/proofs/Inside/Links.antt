@@ -17,7 +17,7 @@ use Rattle.plan.proofs.Accepted.{every_each}
 use Rattle.runs.specs.Searches.{last_below, first_from}
 use Rattle.tasks.specs.Accesses.{no_access, Distinct, accesses, task_of, task_at, access_at, first, reader}
 use Rattle.tasks.specs.Accesses.{same_address, prev, next, total, addr}
-use Rattle.tasks.specs.Inside.LinkLaws.{Links}
+use Rattle.tasks.proofs.Inside.LinkLaws.{Links}
 
 -- ---- where a task's accesses lie
 

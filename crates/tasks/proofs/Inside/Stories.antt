@@ -9,10 +9,10 @@ use Rattle.tasks.specs.Tasks.{Stand, Status, new, waiting, ready, held, running,
 use Rattle.tasks.specs.Tasks.{is_received, is_ended}
 use Rattle.tasks.specs.History.{Op, delivered, after, Can, can_mind, can_open, can_link, can_close, can_deliver, can_tell, can_give}
 use Rattle.tasks.specs.History.{can_hold, can_take, can_receive, can_work, can_end, held_out, fetched, is_receipt, is_ending}
-use Rattle.tasks.specs.Inside.Lowered.{lowered_cases}
-use Rattle.tasks.specs.Inside.Counting.{given_ready}
-use Rattle.tasks.specs.Inside.Invariant.{Inv}
-use Rattle.tasks.specs.Inside.Keeps.{in_hand_lem, fresh, counts_waits}
+use Rattle.tasks.proofs.Inside.Lowered.{lowered_cases}
+use Rattle.tasks.proofs.Inside.Counting.{given_ready}
+use Rattle.tasks.proofs.Inside.Invariant.{Inv}
+use Rattle.tasks.proofs.Inside.Keeps.{in_hand_lem, fresh, counts_waits}
 
 -- ---- what one operation does to one task
 

@@ -8,15 +8,15 @@ use Rattle.tasks.specs.Accesses.{task_of, task_at, first, reader, next, total}
 use Rattle.tasks.specs.Flags.{Flags, no_flag, sent, with, satisfied}
 use Rattle.tasks.specs.Tasks.{Message, Stand, Status, new, waiting, ready, Creation, opening, linking, Tasks, start, opened, closed}
 use Rattle.tasks.specs.Tasks.{linked, until_closed, unsatisfied, past_waiting, given, stage, Released, is_ended, Made, Sound}
-use Rattle.tasks.specs.Inside.Statuses.{at_stage_lem, passed_by, waiting_or_not}
+use Rattle.tasks.proofs.Inside.Statuses.{at_stage_lem, passed_by, waiting_or_not}
 use Rattle.runs.specs.Counts.{one, one_le}
 use Rattle.tasks.specs.History.{Op, lowered, after, Can, can_mind, can_open, can_link, can_close, can_deliver, can_tell, can_give}
 use Rattle.tasks.specs.History.{can_hold, can_take, can_receive, can_work, can_end}
-use Rattle.tasks.specs.Inside.Lowered.{lowered_cases}
-use Rattle.tasks.specs.Inside.LinkLaws.{Links}
-use Rattle.tasks.specs.Inside.Rights.{to_read, to_write, granted, passes_next, satisfied_le, satisfied_with, satisfied_sent}
-use Rattle.tasks.specs.Inside.Underway.{here_same, toward, under_way, way_carried}
-use Rattle.tasks.specs.Inside.Messages.{Messages, granted_once, granted_unlinked, message_sound}
+use Rattle.tasks.proofs.Inside.Lowered.{lowered_cases}
+use Rattle.tasks.proofs.Inside.LinkLaws.{Links}
+use Rattle.tasks.proofs.Inside.Rights.{to_read, to_write, granted, passes_next, satisfied_le, satisfied_with, satisfied_sent}
+use Rattle.tasks.proofs.Inside.Underway.{here_same, toward, under_way, way_carried}
+use Rattle.tasks.proofs.Inside.Messages.{Messages, granted_once, granted_unlinked, message_sound}
 
 -- 1 where access a is satisfied
 abbrev satisfies : List Task → (ℕ → Flags) → ℕ → ℕ

@@ -9,8 +9,8 @@ use Rattle.tasks.specs.Flags.{Flags, no_flag, sent, with}
 use Rattle.tasks.specs.Tasks.{Stand, opening, Tasks, start, with_creation}
 use Rattle.tasks.specs.History.{Op, minds, opens, links, closes, delivers, tells, works, ends, gives, holds, takes, receives}
 use Rattle.tasks.specs.History.{after, delivered, newly_satisfied, brings, Move, still, then, tally, History}
-use Rattle.tasks.specs.Inside.Lowered.{lowered_flags}
-use Rattle.tasks.specs.Inside.Underway.{upd_more}
+use Rattle.tasks.proofs.Inside.Lowered.{lowered_flags}
+use Rattle.tasks.proofs.Inside.Underway.{upd_more}
 
 module _ (flag : Flags → ℕ) (sums : (f g : Flags) → flag (with f g) ≡ flag f + flag g) (a : ℕ) where
   module _ (ts : List Task) (time : ℕ) (t : Tasks) (w : ℕ) where

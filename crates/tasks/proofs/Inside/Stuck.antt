@@ -7,13 +7,13 @@ use Rattle.runs.specs.Update.{same}
 use Rattle.tasks.specs.Accesses.{task_of, task_at, first, reader, prev, total}
 use Rattle.tasks.specs.Tasks.{Message, Stand, over, opening, Tasks, is_ready, is_held, is_running, opened, closed, linked, is_ended}
 use Rattle.tasks.specs.Tasks.{unsatisfied}
-use Rattle.tasks.specs.Inside.LinkLaws.{Links}
-use Rattle.tasks.specs.Inside.Statuses.{only_over}
+use Rattle.tasks.proofs.Inside.LinkLaws.{Links}
+use Rattle.tasks.proofs.Inside.Statuses.{only_over}
 use Rattle.runs.specs.Sums.{sum_zeros}
-use Rattle.tasks.specs.Inside.Rights.{Right, to_read, to_write, granted, passes_one, satisfied_one}
-use Rattle.tasks.specs.Inside.Underway.{toward, under_way, way_empty}
-use Rattle.tasks.specs.Inside.Messages.{due, passing, Messages, granted_once}
-use Rattle.tasks.specs.Inside.Counting.{Counts, Counting, until_closed_lem}
+use Rattle.tasks.proofs.Inside.Rights.{Right, to_read, to_write, granted, passes_one, satisfied_one}
+use Rattle.tasks.proofs.Inside.Underway.{toward, under_way, way_empty}
+use Rattle.tasks.proofs.Inside.Messages.{due, passing, Messages, granted_once}
+use Rattle.tasks.proofs.Inside.Counting.{Counts, Counting, until_closed_lem}
 
 module _ (W : ℕ) (ts : List Task) (laws : Links ts) (s : Tasks) (st : ℕ → Stand) (tasks : Counts ts s.count s.status s.creation)
     (i : Messages W ts s st) (counting : Counting ts s)

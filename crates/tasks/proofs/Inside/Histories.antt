@@ -11,14 +11,15 @@ use Rattle.tasks.specs.Accesses.{total, task_at, total_cost}
 use Rattle.tasks.specs.Tasks.{Stand, Tasks, start, stage, past_waiting, is_received, is_ended, is_over}
 use Rattle.tasks.specs.History.{Op, Can, can_mind, can_give, can_hold, can_take, can_receive, after, stand_after, is_receipt, is_ending}
 use Rattle.tasks.specs.History.{Move, Run, still, then, tally, History}
-use Rattle.tasks.specs.Inside.LinkLaws.{Links}
-use Rattle.tasks.specs.Inside.Statuses.{passed_by}
-use Rattle.tasks.specs.Inside.Counting.{given_ready}
-use Rattle.tasks.specs.Inside.Invariant.{Inv}
-use Rattle.tasks.specs.Inside.Keeps.{starts, keeps}
-use Rattle.tasks.specs.Inside.Lists.{mails_keep}
-use Rattle.tasks.specs.Inside.Stories.{story_of, change, counted, noted, Within, within}
-use Rattle.tasks.specs.Inside.Work.{work_left, work_falls, work_start}
+use Rattle.tasks.proofs.Inside.LinkLaws.{Links}
+use Rattle.tasks.proofs.Inside.Statuses.{passed_by}
+use Rattle.tasks.proofs.Inside.Counting.{given_ready}
+use Rattle.tasks.proofs.Inside.Invariant.{Inv}
+use Rattle.tasks.proofs.Inside.Keeps.{starts, keeps}
+use Rattle.tasks.proofs.Inside.Lists.{mails_keep}
+use Rattle.tasks.proofs.Inside.Stories.{story_of, change, counted, noted, Within, within}
+use Rattle.tasks.specs.Inside.Work.{work_left}
+use Rattle.tasks.proofs.Inside.Work.{work_falls, work_start}
 
 -- what is received was ready or held
 pub receipt_past : {W : ℕ} {ts : List Task} {t : Tasks} {x : Stand} {w : ℕ} {op : Op} → Can W ts t x w op

@@ -5,9 +5,9 @@ use Rattle.runs.specs.Sums.{sum}
 use Rattle.plan.specs.Plan.{Task}
 use Rattle.tasks.specs.Accesses.{task_at}
 use Rattle.tasks.specs.Tasks.{Message, Stand, free, telling, working, Tasks, is_ready, is_running, in_hand, to_add}
-use Rattle.tasks.specs.Inside.LinkLaws.{Links}
-use Rattle.tasks.specs.Inside.Messages.{Messages}
-use Rattle.tasks.specs.Inside.Counting.{Counts, Counting}
+use Rattle.tasks.proofs.Inside.LinkLaws.{Links}
+use Rattle.tasks.proofs.Inside.Messages.{Messages}
+use Rattle.tasks.proofs.Inside.Counting.{Counts, Counting}
 
 -- who has a task in hand has an empty mailbox, and no more work left than the task costs
 abbrev pub Busy : List Task → Stand → List Message → Type 0

@@ -1,0 +1,3 @@
+mod Inside
+pub mod Promise
+pub mod Playing
