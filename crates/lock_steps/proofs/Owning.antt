@@ -20,7 +20,8 @@ use Rattle.memory.specs.Memory as T
 use Rattle.machine.specs.State.{Place, idle, serving, handing, leaving}
 use Rattle.machine.specs.Event.{Handed, handed_by, Event, fills, takes, takes_none, hands_over, leaves, may, choice, taking, event}
 use Rattle.machine.specs.Step.{lock_op, task_op, effect, giver_after, lock_after}
-use Rattle.machine.specs.Ready.{nothing, choose_nowhere}
+use Rattle.machine.specs.Ready.{nothing}
+use Rattle.machine.proofs.Ready.{choose_nowhere}
 use Rattle.machine.specs.Events.{event_fill, event_take_alone, event_take_served, event_stop, event_hand_over, event_leave}
 use Rattle.steps.specs.Layout.{SERVING, HANDING, LEAVING, IDLE, READY, GIVERS, MASKS}
 use Rattle.steps.specs.declared.Counts.{Counts}

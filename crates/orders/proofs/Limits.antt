@@ -14,9 +14,10 @@ use Rattle.picks.specs.Sources.{picks_from, Draws}
 use Rattle.picks.specs.SourceLaws.{from_none}
 use Rattle.machine.specs.State.{Setup, State, picked}
 use Rattle.machine.specs.Step.{step, finished, pick}
-use Rattle.machine.specs.Ranges.{Sized, Fit, Going, going_step, going_fit}
+use Rattle.machine.specs.Ranges.{Sized, Fit, Going}
+use Rattle.machine.proofs.Ranges.{going_step, going_fit}
 use Rattle.machine.specs.Safety.Invariant.{Playable}
-use Rattle.machine.specs.Safety.Traces.{pick_open, run_finished, run_inv, step_picks, picks_taken, taken_within}
+use Rattle.machine.proofs.Safety.Traces.{pick_open, run_finished, run_inv, step_picks, picks_taken, taken_within}
 use Rattle.orders.specs.Limited.{limited, drawn_to, Under}
 
 module _ (c : Setup) (limit : ℕ) where

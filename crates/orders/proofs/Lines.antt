@@ -19,7 +19,8 @@ use Rattle.picks.specs.Sources.{picks_from, Opens}
 use Rattle.picks.specs.SourceLaws.{from_take}
 use Rattle.machine.specs.State.{State, start}
 use Rattle.machine.specs.Step.{finished, pick, after}
-use Rattle.machine.specs.Ranges.{Going, going_start}
+use Rattle.machine.specs.Ranges.{Going}
+use Rattle.machine.proofs.Ranges.{going_start}
 use Rattle.orders.specs.Reached.{setup_of, reached}
 use Rattle.orders.specs.Limited.{limited, drawn_to, Under}
 use Rattle.orders.specs.Picked.{picks_order}

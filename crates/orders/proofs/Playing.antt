@@ -11,7 +11,7 @@ use Rattle.picks.specs.Sources.{Formed, Draws}
 use Rattle.machine.specs.State.{Setup, State, picked}
 use Rattle.machine.specs.Step.{step, finished}
 use Rattle.machine.specs.Ranges.{Fit}
-use Rattle.machine.specs.Safety.Traces.{step_picks}
+use Rattle.machine.proofs.Safety.Traces.{step_picks}
 use Rattle.steps.specs.Layout.{shares_size}
 use Rattle.steps.specs.Memory.{share, Memory, Long, Holds}
 use Rattle.orders.specs.Limited.{drawn_to, Under}

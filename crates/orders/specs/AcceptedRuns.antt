@@ -16,15 +16,20 @@ use Rattle.plan.specs.PermitLaws.{some_permitted}
 use Rattle.tasks.specs.Accesses.{task_at}
 use Rattle.machine.specs.State.{start}
 use Rattle.machine.specs.Step.{finished}
-use Rattle.machine.specs.Unmasked.{after_before, unmasked_runs}
+use Rattle.machine.specs.Unmasked.{after_before}
+use Rattle.machine.proofs.Unmasked.{unmasked_runs}
 use Rattle.machine.specs.Ranges.{Sized}
-use Rattle.machine.specs.Safety as Safety
+use Rattle.machine.proofs.Safety as Safety
 use Rattle.machine.specs.Safety.Invariant.{Playable}
 use Rattle.machine.specs.Figures.{waiting_figure, finishing_figure}
-use Rattle.machine.specs.WholeRuns.{WholeRun, whole_runs}
-use Rattle.machine.specs.Givers.{Givers, givers}
-use Rattle.machine.specs.Leaders.{Leaders, leaders}
-use Rattle.machine.specs.Chains.{Chains, chains}
+use Rattle.machine.specs.WholeRuns.{WholeRun}
+use Rattle.machine.proofs.WholeRuns.{whole_runs}
+use Rattle.machine.specs.Givers.{Givers}
+use Rattle.machine.proofs.Givers.{givers}
+use Rattle.machine.specs.Leaders.{Leaders}
+use Rattle.machine.proofs.Leaders.{leaders}
+use Rattle.machine.specs.Chains.{Chains}
+use Rattle.machine.proofs.Chains.{chains}
 use Rattle.orders.specs.Reached.{setup_of, reached}
 use Rattle.orders.specs.Picked.{picks_below}
 use Rattle.orders.specs.Turns.{picked_in_turn}

@@ -9,7 +9,7 @@ use Rattle.plan.specs.Reading.{accepted, reading}
 use Rattle.plan.specs.Orders.{picks_up_to}
 use Rattle.plan.proofs.Accepted.{accepted_well_formed}
 use Rattle.tasks.specs.Accesses.{task_at}
-use Rattle.machine.specs.Safety.{noted}
+use Rattle.machine.proofs.Safety.{noted}
 use Rattle.machine.specs.declared.Leader.{Leader}
 use Rattle.machine.specs.declared.Leader.TheVariants.{Nobody, Owner, Due}
 use Rattle.machine.specs.Whereabouts.{leader}

@@ -15,7 +15,8 @@ use Rattle.runs.specs.Update.{upd, upd_id, upd_all, upd_both, map_upd}
 use Rattle.runs.specs.Circular.{entries}
 use Rattle.machine.specs.State.{Setup, State, Purpose, for_serving, for_adding}
 use Rattle.machine.specs.State.{Place, idle, trying, registering, looking, draining, serving, handing, leaving}
-use Rattle.machine.specs.Ready.{arrive, arrive_length}
+use Rattle.machine.specs.Ready.{arrive}
+use Rattle.machine.proofs.Ready.{arrive_length}
 use Rattle.machine.specs.Step.{after_draining, next_drain}
 use Rattle.machine.specs.Events.{event_drain}
 use Rattle.machine.specs.Ranges.{Fit, acted}

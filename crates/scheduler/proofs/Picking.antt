@@ -8,7 +8,8 @@ use lib.ListN.{get_or}
 use Rattle.runs.specs.Update.{same}
 use Rattle.machine.specs.State.{Setup, State, picked}
 use Rattle.machine.specs.Step.{step}
-use Rattle.machine.specs.Ranges.{Fit, acted, acted_step}
+use Rattle.machine.specs.Ranges.{Fit, acted}
+use Rattle.machine.proofs.Ranges.{acted_step}
 use Rattle.steps.specs.Layout.{place_at, number_at, most_workers, IDLE, TRYING, REGISTERING, LOOKING}
 use Rattle.steps.specs.Layout.{SERVING, HANDING, LEAVING, DRAINING_TO_SERVE, DRAINING_TO_ADD}
 use Rattle.steps.specs.Memory.{station, Memory, Long, with_counts, Holds, Able}

@@ -13,7 +13,8 @@ use Rattle.plan.specs.PermitLaws.{permits_mask}
 use Rattle.tasks.specs.Accesses.{task_at}
 use Rattle.memory.specs.Layout as layout
 use Rattle.machine.specs.Event.{may, choice}
-use Rattle.machine.specs.Ready.{nothing, chosen, choose_at, choose_nowhere}
+use Rattle.machine.specs.Ready.{nothing, chosen}
+use Rattle.machine.proofs.Ready.{choose_at, choose_nowhere}
 use Rattle.steps.specs.Layout.{READY}
 use Rattle.steps.specs.declared.Counts.{Counts}
 use Rattle.steps.specs.Memory.{Memory, one_taken, Able}

@@ -15,17 +15,18 @@ use Rattle.tasks.proofs.Promise as Tasks
 use Rattle.machine.specs.State.{Setup, for_serving, for_adding, Place, idle, trying, registering, looking, draining, serving, handing, leaving, State}
 use Rattle.machine.specs.Event.{Event, event}
 use Rattle.machine.specs.Step.{finished}
-use Rattle.machine.specs.Unmasked.{all_may}
-use Rattle.machine.specs.View.{does}
+use Rattle.machine.proofs.Unmasked.{all_may}
+use Rattle.machine.proofs.View.{does}
 use Rattle.machine.specs.Whereabouts.{lock_stand}
 use Rattle.machine.specs.Safety.Invariant.{Playable, Inv}
-use Rattle.machine.specs.Safety.Device.{Bare, Fits, Device, held_at}
-use Rattle.machine.specs.Safety.Bounds.{ready_below}
-use Rattle.machine.specs.Progress.Leading.{standing}
-use Rattle.machine.specs.Progress.Waiting.{to_hand_over}
-use Rattle.machine.specs.Progress.Quiet.{work, gain, work_falls, Quiet, quiet_full, quiet_win, quiet_fail, quiet_ticket, quiet_register, quiet_wait, quiet_own, quiet_drain, quiet_none, quiet_hand, quiet_leave, gains_or_quiet}
-use Rattle.machine.specs.Progress.Creating.{Soon, Created, CreatesFirst}
-use Rattle.machine.specs.Progress.Helpful.{Occupied, Prompt, to_idle, FindsList, Uncreated, NoneIn, MayRun, Ahead, to_turn, Helpful, prompt, hands_on_lem, takes_along, eager, leads_to, leads_past, seeks, called_helps, holder_helps, free_helps}
+use Rattle.machine.specs.Safety.Device.{Bare, Fits, Device}
+use Rattle.machine.proofs.Safety.Device.{held_at}
+use Rattle.machine.proofs.Safety.Bounds.{ready_below}
+use Rattle.machine.proofs.Progress.Leading.{standing}
+use Rattle.machine.proofs.Progress.Waiting.{to_hand_over}
+use Rattle.machine.proofs.Progress.Quiet.{work, gain, work_falls, Quiet, quiet_full, quiet_win, quiet_fail, quiet_ticket, quiet_register, quiet_wait, quiet_own, quiet_drain, quiet_none, quiet_hand, quiet_leave, gains_or_quiet}
+use Rattle.machine.proofs.Progress.Creating.{Soon, Created, CreatesFirst}
+use Rattle.machine.proofs.Progress.Helpful.{Occupied, Prompt, to_idle, FindsList, Uncreated, NoneIn, MayRun, Ahead, to_turn, Helpful, prompt, hands_on_lem, takes_along, eager, leads_to, leads_past, seeks, called_helps, holder_helps, free_helps}
 
 -- ---- tests and lists
 

@@ -21,19 +21,22 @@ use Rattle.tasks.proofs.Playing as PLaws
 use Rattle.tasks.proofs.Promise as Promise
 use Rattle.machine.specs.State.{Setup, Place, looking, serving, State, start, picked}
 use Rattle.machine.specs.Event.{Handed, Event, receives, fills, takes, handed_by, event}
-use Rattle.machine.specs.Ready.{chosen_listed}
+use Rattle.machine.proofs.Ready.{chosen_listed}
 use Rattle.machine.specs.Step.{lock_op, task_op, effect, giver_after, lock_after, apply, step, finished, after}
 use Rattle.machine.specs.Trace.{Happening, trace, tally, is_receipt, is_hand_over, is_taking, is_handing, handed_with}
 use Rattle.machine.specs.View as view
-use Rattle.machine.specs.View.{Does, does_step}
+use Rattle.machine.specs.View.{Does}
+use Rattle.machine.proofs.View.{does_step}
 use Rattle.machine.specs.Whereabouts.{lock_stand}
-use Rattle.machine.specs.Safety.Locked.{lock_stands, LockMove, aside, operates, lock_move, moved_stands, waits_at}
-use Rattle.machine.specs.Safety.Ends.{tail_apply, tail_kept, tail_raised}
-use Rattle.machine.specs.Safety.Device.{listed_given, celled, celled_once}
-use Rattle.machine.specs.Safety.Tasked.{tasked_keep}
-use Rattle.machine.specs.Safety.Handed.{Fronts, handed_is, handed_if}
-use Rattle.machine.specs.Safety.Traces.{more, tally_more, length_more, at_more, at_last}
-use Rattle.machine.specs.Safety.Invariant.{Playable, Inv, may_do, inv_start, inv_step, inv_picked}
+use Rattle.machine.specs.Safety.Locked.{lock_stands}
+use Rattle.machine.proofs.Safety.Locked.{LockMove, aside, operates, lock_move, moved_stands, waits_at}
+use Rattle.machine.proofs.Safety.Ends.{tail_apply, tail_kept, tail_raised}
+use Rattle.machine.proofs.Safety.Device.{listed_given, celled, celled_once}
+use Rattle.machine.proofs.Safety.Tasked.{tasked_keep}
+use Rattle.machine.proofs.Safety.Handed.{Fronts, handed_is, handed_if}
+use Rattle.machine.proofs.Safety.Traces.{more, tally_more, length_more, at_more, at_last}
+use Rattle.machine.specs.Safety.Invariant.{Playable, Inv}
+use Rattle.machine.proofs.Safety.Invariant.{may_do, inv_start, inv_step, inv_picked}
 
 -- ---- what a list of events has of task i, whose giver is gs
 

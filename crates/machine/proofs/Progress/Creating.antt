@@ -9,8 +9,9 @@ use Rattle.machine.specs.State.{Setup, for_serving, for_adding, Place, idle, try
 use Rattle.machine.specs.Event.{Event}
 use Rattle.machine.specs.Step.{task_op, after_draining, next_drain, apply}
 use Rattle.machine.specs.View.{Does, does_mind, does_push, does_find_full, does_win, does_fail, does_take_ticket, does_register, does_wait, does_receive, does_own, does_drain, does_fill, does_take, does_take_none, does_hand_over, does_leave}
-use Rattle.machine.specs.Safety.Invariant.{Playable, Inv, may_do}
-use Rattle.machine.specs.Progress.Leading.{place_other}
+use Rattle.machine.specs.Safety.Invariant.{Playable, Inv}
+use Rattle.machine.proofs.Safety.Invariant.{may_do}
+use Rattle.machine.proofs.Progress.Leading.{place_other}
 
 -- where a worker waits for nobody: it comes back to being idle by its own picks alone
 abbrev pub Soon : Place → Type 0

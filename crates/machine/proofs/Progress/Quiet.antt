@@ -12,13 +12,15 @@ use Rattle.tasks.proofs.Promise as Tasks
 use Rattle.tasks.proofs.Promise.{work_left, to_give, total_cost, total}
 use Rattle.machine.specs.State.{Setup, Purpose, trying, registering, looking, draining, serving, handing, leaving, State, start}
 use Rattle.machine.specs.Event.{Event, minds, pushes, finds_full, tries_and_owns, tries_in_vain, takes_ticket, registers, waits, receives, owns, drains, fills, takes, takes_none, hands_over, leaves, may, handed_by}
-use Rattle.machine.specs.Ready.{nothing, choose, arrive_none}
+use Rattle.machine.specs.Ready.{nothing, choose}
+use Rattle.machine.proofs.Ready.{arrive_none}
 use Rattle.machine.specs.Step.{apply, lock_op, task_op}
 use Rattle.machine.specs.Trace.{by_lock}
 use Rattle.machine.specs.View.{AtRest, AllCreated, Does, does_mind, does_push, does_find_full, does_win, does_fail, does_take_ticket, does_register, does_wait, does_receive, does_own, does_drain, does_fill, does_take, does_take_none, does_hand_over, does_leave}
-use Rattle.machine.specs.Safety.Ends.{cells_kept}
-use Rattle.machine.specs.Safety.Device.{drains_below}
-use Rattle.machine.specs.Safety.Invariant.{Playable, Inv, may_do}
+use Rattle.machine.proofs.Safety.Ends.{cells_kept}
+use Rattle.machine.proofs.Safety.Device.{drains_below}
+use Rattle.machine.specs.Safety.Invariant.{Playable, Inv}
+use Rattle.machine.proofs.Safety.Invariant.{may_do}
 
 -- the tasks that are still to be drained
 abbrev undrained : Setup → State → ℕ

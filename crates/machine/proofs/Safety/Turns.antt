@@ -8,12 +8,13 @@ use Rattle.lock.proofs.Promise as Promise
 use Rattle.machine.specs.State.{Setup, looking, State, start, picked}
 use Rattle.machine.specs.Event.{registers, event}
 use Rattle.machine.specs.Step.{step, pick, after}
-use Rattle.machine.specs.View.{does_step}
-use Rattle.machine.specs.Safety.Ends.{tail_apply}
+use Rattle.machine.proofs.View.{does_step}
+use Rattle.machine.proofs.Safety.Ends.{tail_apply}
 use Rattle.machine.specs.Whereabouts.{lock_stand}
-use Rattle.machine.specs.Safety.Locked.{Locked, locked_start, locked_keep}
+use Rattle.machine.specs.Safety.Locked.{Locked}
+use Rattle.machine.proofs.Safety.Locked.{locked_start, locked_keep}
 use Rattle.machine.specs.Trace.{trace, tally, is_hand_over}
-use Rattle.machine.specs.Safety.Traces.{run_inv, tallied}
+use Rattle.machine.proofs.Safety.Traces.{run_inv, tallied}
 
 module _ (c : Setup) where
   pub tail_step : (s : State) (w : ℕ) → (step c s w).lock.tail ≡ s.lock.tail + is_hand_over (event c s w)

@@ -13,8 +13,10 @@ use Rattle.tasks.proofs.Promise as Promise
 use Rattle.machine.specs.State.{Setup, State}
 use Rattle.machine.specs.Event.{Handed, found, handed, handed_by}
 use Rattle.machine.specs.Whereabouts.{lock_stand}
-use Rattle.machine.specs.Safety.Locked.{Locked, lock_stands, waits_at}
-use Rattle.machine.specs.Safety.Device.{Tasked, Device, celled}
+use Rattle.machine.specs.Safety.Locked.{Locked, lock_stands}
+use Rattle.machine.proofs.Safety.Locked.{waits_at}
+use Rattle.machine.specs.Safety.Device.{Tasked, Device}
+use Rattle.machine.proofs.Safety.Device.{celled}
 
 -- task i lies in the cell of worker v, who waits with the tail, under that ticket
 abbrev pub Fronts : State → ℕ → ℕ → Type 0

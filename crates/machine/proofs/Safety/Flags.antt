@@ -11,10 +11,12 @@ use Rattle.machine.specs.State.{Setup, State, start}
 use Rattle.machine.specs.Event.{minds, event}
 use Rattle.machine.specs.Step.{task_op, after}
 use Rattle.machine.specs.Trace.{trace, tally, brings}
-use Rattle.machine.specs.View.{Does, does_mind, does}
+use Rattle.machine.specs.View.{Does, does_mind}
+use Rattle.machine.proofs.View.{does}
 use Rattle.machine.specs.Safety.Device.{Tasked}
-use Rattle.machine.specs.Safety.Invariant.{Playable, inv_after}
-use Rattle.machine.specs.Safety.Histories.{task_history}
+use Rattle.machine.specs.Safety.Invariant.{Playable}
+use Rattle.machine.proofs.Safety.Invariant.{inv_after}
+use Rattle.machine.proofs.Safety.Histories.{task_history}
 
 -- what is delivered is the oldest message of the mailbox, and what is told was to be told
 delivered : (c : Setup) (s : State) (w : ℕ) (m : Message) (ms : List Message) → Does c s w (minds (H.delivers m ms))

@@ -9,19 +9,21 @@ use Rattle.lock.specs.History as H
 use Rattle.lock.proofs.Promise as Promise
 use Rattle.machine.specs.State.{Setup, Purpose, for_serving, for_adding, Place, idle, trying, registering, looking, draining, serving, handing, leaving, State}
 use Rattle.machine.specs.Event.{Event, tries_and_owns, takes_ticket, registers, owns, hands_over, may, handed_by}
-use Rattle.machine.specs.Ready.{none_chosen}
+use Rattle.machine.proofs.Ready.{none_chosen}
 use Rattle.machine.specs.Step.{apply, after_draining, next_drain}
 use Rattle.machine.specs.Whereabouts.{lock_stand}
 use Rattle.machine.specs.View.{AtRest, AllCreated, Does}
-use Rattle.machine.specs.Safety.Locked.{Locked, waits_at}
-use Rattle.machine.specs.Safety.Device.{drains_below}
-use Rattle.machine.specs.Safety.Ends.{tail_apply, tail_kept, tail_raised, cells_kept}
-use Rattle.machine.specs.Safety.Invariant.{Playable, Inv, inv_keep}
-use Rattle.machine.specs.Progress.Leading.{place_other, standing, Leads, leader_of, others_lock, others_lead}
-use Rattle.machine.specs.Progress.Waiting.{to_hand_over, per_hand_over, to_hand_over_le, LeaderStep, nearing, handing_over, leader_step}
-use Rattle.machine.specs.Progress.Quiet.{Quiet, quiet_full, quiet_win, quiet_fail, quiet_ticket, quiet_register, quiet_wait, quiet_own, quiet_drain, quiet_none, quiet_hand, quiet_leave, Unmoved, unmoved}
-use Rattle.machine.specs.Progress.Creating.{Soon, drain_soon}
-use Rattle.machine.specs.Progress.Helpful.{Prompt, Near, to_idle, FindsQueue, FindsList, Uncreated, Eager, MayRun, Ahead, Sure, to_turn, to_find, Helpful, prompt, hands_on_lem, takes_along, eager, leads_to, leads_past, near, seeks, leads_before, called_helps, due_helps, holder_helps, free_tail, free_unowned, free_served, free_registered, free_helps}
+use Rattle.machine.specs.Safety.Locked.{Locked}
+use Rattle.machine.proofs.Safety.Locked.{waits_at}
+use Rattle.machine.proofs.Safety.Device.{drains_below}
+use Rattle.machine.proofs.Safety.Ends.{tail_apply, tail_kept, tail_raised, cells_kept}
+use Rattle.machine.specs.Safety.Invariant.{Playable, Inv}
+use Rattle.machine.proofs.Safety.Invariant.{inv_keep}
+use Rattle.machine.proofs.Progress.Leading.{place_other, standing, Leads, leader_of, others_lock, others_lead}
+use Rattle.machine.proofs.Progress.Waiting.{to_hand_over, per_hand_over, to_hand_over_le, LeaderStep, nearing, handing_over, leader_step}
+use Rattle.machine.proofs.Progress.Quiet.{Quiet, quiet_full, quiet_win, quiet_fail, quiet_ticket, quiet_register, quiet_wait, quiet_own, quiet_drain, quiet_none, quiet_hand, quiet_leave, Unmoved, unmoved}
+use Rattle.machine.proofs.Progress.Creating.{Soon, drain_soon}
+use Rattle.machine.proofs.Progress.Helpful.{Prompt, Near, to_idle, FindsQueue, FindsList, Uncreated, Eager, MayRun, Ahead, Sure, to_turn, to_find, Helpful, prompt, hands_on_lem, takes_along, eager, leads_to, leads_past, near, seeks, leads_before, called_helps, due_helps, holder_helps, free_tail, free_unowned, free_served, free_registered, free_helps}
 
 -- a drain that is not the last leads to the next one
 drains_next : (c : Setup) (p : Purpose) (k : ℕ) → suc k < c.workers → next_drain c p k ≡ draining p (suc k)

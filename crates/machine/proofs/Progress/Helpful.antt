@@ -11,10 +11,11 @@ use Rattle.tasks.specs.Tasks.{Message, Creation, opening, linking}
 use Rattle.machine.specs.State.{Setup, for_serving, for_adding, Place, idle, trying, registering, looking, draining, serving, handing, leaving, State}
 use Rattle.machine.specs.Event.{may}
 use Rattle.machine.specs.Whereabouts.{lock_stand}
-use Rattle.machine.specs.Safety.Locked.{Locked, waits_at}
-use Rattle.machine.specs.Progress.Leading.{standing, Leads, leader_of}
-use Rattle.machine.specs.Progress.Waiting.{to_hand_over, per_hand_over, to_hand_over_le}
-use Rattle.machine.specs.Progress.Creating.{Soon}
+use Rattle.machine.specs.Safety.Locked.{Locked}
+use Rattle.machine.proofs.Safety.Locked.{waits_at}
+use Rattle.machine.proofs.Progress.Leading.{standing, Leads, leader_of}
+use Rattle.machine.proofs.Progress.Waiting.{to_hand_over, per_hand_over, to_hand_over_le}
+use Rattle.machine.proofs.Progress.Creating.{Soon}
 
 -- ---- places
 

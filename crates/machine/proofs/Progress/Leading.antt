@@ -11,7 +11,8 @@ use Rattle.machine.specs.Event.{Event}
 use Rattle.machine.specs.Step.{effect, lock_after, apply}
 use Rattle.machine.specs.Whereabouts.{lock_stand}
 use Rattle.machine.specs.View.{Does}
-use Rattle.machine.specs.Safety.Locked.{Locked, LockMove, aside, operates, lock_move}
+use Rattle.machine.specs.Safety.Locked.{Locked}
+use Rattle.machine.proofs.Safety.Locked.{LockMove, aside, operates, lock_move}
 
 -- an event moves its own worker alone
 pub place_other : (c : Setup) (s : State) (w : ℕ) (e : Event) (v : ℕ) → v ≢ w → (apply c s w e).place v ≡ s.place v

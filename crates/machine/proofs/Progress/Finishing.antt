@@ -12,19 +12,20 @@ use Rattle.plan.specs.Permits.{any_masked}
 use Rattle.machine.specs.State.{Setup, State, start, picked}
 use Rattle.machine.specs.Event.{event}
 use Rattle.machine.specs.Step.{step, finished, pick, after}
-use Rattle.machine.specs.View.{does_step}
+use Rattle.machine.proofs.View.{does_step}
 use Rattle.machine.specs.Figures.{factor, per_progress, finishing_figure}
-use Rattle.machine.specs.Safety.Invariant.{Playable, Inv, inv_start, inv_step, inv_picked}
-use Rattle.machine.specs.Safety.Traces.{pick_finished, pick_open, pick_keeps, run_finished, picks_taken, taken_within}
+use Rattle.machine.specs.Safety.Invariant.{Playable, Inv}
+use Rattle.machine.proofs.Safety.Invariant.{inv_start, inv_step, inv_picked}
+use Rattle.machine.proofs.Safety.Traces.{pick_finished, pick_open, pick_keeps, run_finished, picks_taken, taken_within}
 use Rattle.tasks.specs.Tasks as T
 use Rattle.tasks.proofs.Promise as Tasks
 use Rattle.tasks.proofs.Promise.{total, total_cost}
 use Rattle.tasks.proofs.Playing as P
-use Rattle.machine.specs.Progress.Quiet.{work, gain, work_start, work_falls, gains_or_quiet}
-use Rattle.machine.specs.Progress.Creating.{CreatesFirst, creates_start, creates_keep}
-use Rattle.machine.specs.Progress.Helpful.{to_turn, Helpful, prompt, hands_on_lem, takes_along, eager, leads_to, leads_past, near, seeks, leads_before}
-use Rattle.machine.specs.Progress.Nearing.{quiet_turn}
-use Rattle.machine.specs.Progress.Somebody.{Somebody, somebody_unmasked, somebody_masked, nothing_left}
+use Rattle.machine.proofs.Progress.Quiet.{work, gain, work_start, work_falls, gains_or_quiet}
+use Rattle.machine.proofs.Progress.Creating.{CreatesFirst, creates_start, creates_keep}
+use Rattle.machine.proofs.Progress.Helpful.{to_turn, Helpful, prompt, hands_on_lem, takes_along, eager, leads_to, leads_past, near, seeks, leads_before}
+use Rattle.machine.proofs.Progress.Nearing.{quiet_turn}
+use Rattle.machine.proofs.Progress.Somebody.{Somebody, somebody_unmasked, somebody_masked, nothing_left}
 
 -- counting the pick changes none of it
 helpful_picked : (c : Setup) (s : State) (r v : ℕ) → Helpful c s r v → Helpful c (picked s) r v

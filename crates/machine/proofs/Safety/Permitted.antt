@@ -10,14 +10,16 @@ use Rattle.runs.proofs.Traces as Traces
 use Rattle.lock.proofs.Promise as Lock
 use Rattle.machine.specs.State.{Setup, State, start, picked}
 use Rattle.machine.specs.Event.{Event, tries_and_owns, takes_ticket, registers, receives, owns, hands_over, leaves, may, handed_by, event}
-use Rattle.machine.specs.Ready.{chosen_may}
+use Rattle.machine.proofs.Ready.{chosen_may}
 use Rattle.machine.specs.Step.{apply, step, finished}
 use Rattle.machine.specs.Trace.{Happening, trace, is_receipt}
 use Rattle.machine.specs.View as view
-use Rattle.machine.specs.View.{Does, does_step}
+use Rattle.machine.specs.View.{Does}
+use Rattle.machine.proofs.View.{does_step}
 use Rattle.machine.specs.Whereabouts.{lock_stand}
-use Rattle.machine.specs.Safety.Ends.{cells_kept}
-use Rattle.machine.specs.Safety.Invariant.{Playable, Inv, inv_start, inv_step, inv_picked}
+use Rattle.machine.proofs.Safety.Ends.{cells_kept}
+use Rattle.machine.specs.Safety.Invariant.{Playable, Inv}
+use Rattle.machine.proofs.Safety.Invariant.{inv_start, inv_step, inv_picked}
 
 -- what was ever put into a cell, its worker may run
 abbrev MayCells : Setup → (tickets tasks : ℕ → ℕ) → Type 0

@@ -18,13 +18,15 @@ use Rattle.tasks.proofs.Playing as PLaws
 use Rattle.machine.specs.State.{Setup, Place, State, start, picked}
 use Rattle.machine.specs.Event.{event}
 use Rattle.machine.specs.Step.{lock_op, task_op, lock_after, step, finished, after}
-use Rattle.machine.specs.View.{does_step}
+use Rattle.machine.proofs.View.{does_step}
 use Rattle.machine.specs.Trace as Trace
 use Rattle.machine.specs.Trace.{Happening, trace}
 use Rattle.machine.specs.Whereabouts.{left_in_hands}
-use Rattle.machine.specs.Safety.Locked.{lock_stands, LockMove, aside, operates, lock_move, stands_after, moved_stands}
-use Rattle.machine.specs.Safety.Invariant.{Playable, Inv, may_do, inv_start, inv_step, inv_picked}
-use Rattle.machine.specs.Safety.Traces.{step_picks}
+use Rattle.machine.specs.Safety.Locked.{lock_stands}
+use Rattle.machine.proofs.Safety.Locked.{LockMove, aside, operates, lock_move, stands_after, moved_stands}
+use Rattle.machine.specs.Safety.Invariant.{Playable, Inv}
+use Rattle.machine.proofs.Safety.Invariant.{may_do, inv_start, inv_step, inv_picked}
+use Rattle.machine.proofs.Safety.Traces.{step_picks}
 
 -- ---- the lock
 

@@ -18,15 +18,17 @@ use Rattle.tasks.specs.Playing.{by, has_notice}
 use Rattle.tasks.proofs.Promise as Promise
 use Rattle.machine.specs.State.{Setup, Purpose, for_serving, for_adding, Place, idle, trying, registering, looking, draining, serving, handing, leaving, State}
 use Rattle.machine.specs.Event.{Event, tries_and_owns, takes_ticket, registers, receives, owns, hands_over, leaves, fills, handed_by}
-use Rattle.machine.specs.Ready.{chosen_listed, chosen_count, arrive_count}
+use Rattle.machine.proofs.Ready.{chosen_listed, chosen_count, arrive_count}
 use Rattle.machine.specs.Step.{apply, lock_op, task_op, effect, after_draining, next_drain}
 use Rattle.machine.specs.Trace.{by_lock}
 use Rattle.machine.specs.View as view
 use Rattle.machine.specs.View.{Does}
 use Rattle.machine.specs.Whereabouts.{lock_stand, in_cell, stored, boxes}
-use Rattle.machine.specs.Safety.Locked.{Locked, waits_at}
-use Rattle.machine.specs.Safety.Ends.{cells_kept}
-use Rattle.machine.specs.Safety.Device.{Tasked, Fits, Device, boxed_same, boxed_other, listed_given, celled, drains_below}
+use Rattle.machine.specs.Safety.Locked.{Locked}
+use Rattle.machine.proofs.Safety.Locked.{waits_at}
+use Rattle.machine.proofs.Safety.Ends.{cells_kept}
+use Rattle.machine.specs.Safety.Device.{Tasked, Fits, Device}
+use Rattle.machine.proofs.Safety.Device.{boxed_same, boxed_other, listed_given, celled, drains_below}
 
 -- after a drain the owner goes on, or its way ends, with what it has
 drain_fits : (c : Setup) (p : Purpose) (k : ℕ) (x : T.Stand) (ms : List Message) (js : List ℕ) → Fits c (draining p k) x ms js

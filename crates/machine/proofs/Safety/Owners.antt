@@ -11,10 +11,11 @@ use Rattle.lock.proofs.Promise as Lock
 use Rattle.machine.specs.State.{Setup, Place, State, picked}
 use Rattle.machine.specs.Event.{event}
 use Rattle.machine.specs.Step.{lock_op, step, after}
-use Rattle.machine.specs.View.{does_step}
+use Rattle.machine.proofs.View.{does_step}
 use Rattle.machine.specs.Whereabouts.{lock_stand, is_owner, owner}
-use Rattle.machine.specs.Safety.Locked.{LockMove, aside, operates, lock_move}
-use Rattle.machine.specs.Safety.Invariant.{Playable, inv_after}
+use Rattle.machine.proofs.Safety.Locked.{LockMove, aside, operates, lock_move}
+use Rattle.machine.specs.Safety.Invariant.{Playable}
+use Rattle.machine.proofs.Safety.Invariant.{inv_after}
 
 pub owner_is : (x : LH.Stand) → (is_owner x ≡ true) ↔ LH.Owner x
 owner_is x = (shown x, ⊎_elim (λ (e : x ≡ LH.owning). rw e) (λ (e : x ≡ LH.serving). rw e))

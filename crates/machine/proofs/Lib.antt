@@ -1,0 +1,10 @@
+pub mod Ready
+pub mod View
+pub mod Unmasked
+pub mod Safety
+pub mod Progress
+pub mod WholeRuns
+pub mod Givers
+pub mod Leaders
+pub mod Chains
+pub mod Ranges
