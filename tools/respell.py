@@ -5,7 +5,7 @@ usage: python3 tools/respell.py      at the top of the repository, once, after t
 
 Words in camel case that begin with a small letter, and words with dashes, become words with underscores. Names of the kit's library, which
 `use` lines bring in, keep theirs, and so do names that begin with a capital letter. Where a lemma would get the name of something else, it
-gets `_lem` behind it, and a variable `_here`; so does a word with underscores whose file has the other one too (APART). In comments and pages a word with dashes is a name only between backticks.
+gets `_lem` behind it; so does a word with underscores whose file has the other one too (APART). In comments and pages a word with dashes is a name only between backticks.
 It goes by text alone, and prints each name that it had to set apart.
 """
 
@@ -19,7 +19,6 @@ APART = "after_line at_stage goes_on hands_on in_cell is_digit known_from no_acc
 
 WORD = re.compile(r"(?<![\w'◌⊎-])[A-Za-z_][A-Za-z0-9_']*(?:-[A-Za-z0-9_'][A-Za-z0-9_']*)*(?![\w◌])")
 USES = re.compile(r"^[ \t]*(?:pub )?(?:ghost )?use ([\w.'-]+?)\.\{([^}]*)\}", re.M)
-SIGNATURE = re.compile(r"^[ \t]*(?:(?:abbrev|unfoldable|pub|ruleset|record|data) )*([a-z_][A-Za-z0-9_'-]*)(?: [^=]*?)? :(?= |$)", re.M)
 PIECES = re.compile(r'"(?:\\.|[^"\\\n])*"|--.*|//.*')
 
 
@@ -58,7 +57,7 @@ def is_camel(word):
 def names():
     """From each name to its new one."""
     crates = set(os.listdir("crates"))
-    library, seen, defined, code = set(), set(), set(), set()
+    library, seen, code = set(), set(), set()
     for path in files(".antt", ".rt"):
         text = bare(text_of(path))
         for use in USES.finditer(text):
@@ -72,7 +71,6 @@ def names():
             code |= {w for w in words if "-" not in w}
         else:
             seen |= words
-            defined |= {m[1] for m in SIGNATURE.finditer(text)}
     seen |= {w for w in code if is_camel(w)}
     taken = {snake(w) for w in seen | code if "-" not in w}
     new = {}
@@ -81,11 +79,11 @@ def names():
             continue
         to = OTHER.get(word, snake(word))
         if "-" in word and to in taken:
-            to += "_lem" if word in defined else "_here"
+            to += "_lem"
             print(f"set apart: {word} is {to}")
         new[word] = to
     for word in APART:
-        new[word] = word + ("_lem" if word in defined else "_here")
+        new[word] = word + "_lem"
         print(f"set apart: {word} is {new[word]}")
     return new
 

@@ -55,10 +55,10 @@ in_first_form =
     ∷ []
 
 -- by computation
-pub to_second_here : AllMake to_second in_second_form
+pub to_second_lem : AllMake to_second in_second_form
 unfolding bytes every all_of split value_after number_of digits_before decimal line
     repeats ends_unmasked line_by line_of_fields first_refusal read_lines reading after_line to_second
-to_second_here = (refl, (refl, (refl, (refl, (refl, tt)))))
+to_second_lem = (refl, (refl, (refl, (refl, (refl, tt)))))
 
 pub to_first_lem : AllMake to_first in_first_form
 unfolding bytes every all_of split value_after number_of digits_before decimal line

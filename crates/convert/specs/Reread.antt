@@ -157,13 +157,13 @@ digit_bytes [] e = refl
 digit_bytes (b ∷ bs) e =
     simp (digit_byte b (both_left (is_digit b) (every is_digit bs) e)) (digit_bytes bs (both_right (is_digit b) (every is_digit bs) e))
 
-number_bytes_here : (n : ℕ) → every is_field_byte (decimal n) ≡ true
-number_bytes_here n = digit_bytes (decimal n) (decimal_digits n)
+number_bytes_lem : (n : ℕ) → every is_field_byte (decimal n) ≡ true
+number_bytes_lem n = digit_bytes (decimal n) (decimal_digits n)
 
 whole_fields : (n : ℕ) (form : Form) → Whole (workers_fields n form)
 unfolding bytes every
-whole_fields n First = (refl, (number_bytes_here n, tt))
-whole_fields n (Second slots capacity) = (refl, (number_bytes_here n, (number_bytes_here slots, (number_bytes_here capacity, tt))))
+whole_fields n First = (refl, (number_bytes_lem n, tt))
+whole_fields n (Second slots capacity) = (refl, (number_bytes_lem n, (number_bytes_lem slots, (number_bytes_lem capacity, tt))))
 
 module _ (n : ℕ) (rest : List ℕ) where
   -- it is one part more, of its fields

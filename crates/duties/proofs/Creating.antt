@@ -81,7 +81,7 @@ module _ {m : TaskMemory} {own : List ℕ} {w : ℕ} (a : Able m own w) (i : ℕ
         tasks = h.tasks;
         stored = stored_still a own (a.st w) (own_stored a);
         task_rows_lem = opened_rows_lem;
-        access_rows_here = h.access_rows_here;
+        access_rows_lem = h.access_rows_lem;
         creation = (refl, (rw e at h.creation).1, opened_rows_lem.first i l);
         left = omega (arith, ap unfinished (opening_new a.fit.kept i e), left_now a i l waiting);
         pending = omega (arith, pending_still a (a.st w));
@@ -148,7 +148,7 @@ module _ {m : TaskMemory} {own : List ℕ} {w : ℕ} (a : Able m own w) (i x : �
         tasks = h.tasks;
         stored = stored_now a next (a.st w) posted a.t.adds others (λ v d. refl) (rw mine new);
         task_rows_lem = h.task_rows_lem;
-        access_rows_here = h.access_rows_here;
+        access_rows_lem = h.access_rows_lem;
         creation = (at_task_lem.0, at_task_lem.1, omega (arith, at_task_lem));
         left = h.left;
         pending = omega (
@@ -241,7 +241,7 @@ module _ {m : TaskMemory} {own : List ℕ} {w : ℕ} (a : Able m own w) (i x : �
         tasks = h.tasks;
         stored = stored_now a next (a.st w) a.t.mail added (λ v d. refl) others new;
         task_rows_lem = kept;
-        access_rows_here = h.access_rows_here;
+        access_rows_lem = h.access_rows_lem;
         creation = (refl, omega (arith, at_task_lem a i x e));
         left = h.left ∙ sym left;
         pending = omega (arith, pending_still a (a.st w));
@@ -270,6 +270,6 @@ module _ {m : TaskMemory} {own : List ℕ} {w : ℕ} (a : Able m own w) (i x : �
       kept new)
 
 -- whether a task is to be opened
-pub to_create_here : (n : Tally) → to_create n ≡ true → n.opened ≡ 0 → n.task < n.tasks
+pub to_create_lem : (n : Tally) → to_create n ≡ true → n.opened ≡ 0 → n.task < n.tasks
 unfolding to_create
-to_create_here n e z = ltb-true _ _ (let y : to_create n ≡ ltb n.task n.tasks = rw (to_create, eq-eqb n.opened 0 z) in sym y ∙ e)
+to_create_lem n e z = ltb-true _ _ (let y : to_create n ≡ ltb n.task n.tasks = rw (to_create, eq-eqb n.opened 0 z) in sym y ∙ e)

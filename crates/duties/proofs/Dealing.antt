@@ -28,7 +28,7 @@ module _ {m : TaskMemory} {own : List ℕ} {w : ℕ} (a : Able m own w) where
         stored = stored_now a next (a.st w) a.t.mail (upd a.t.adds w is) (λ v d. refl) (upd_other a.t.adds w is)
             (rw (upd_same a.t.adds w is) new);
         task_rows_lem = h.task_rows_lem;
-        access_rows_here = h.access_rows_here;
+        access_rows_lem = h.access_rows_lem;
         creation = h.creation;
         left = h.left;
         pending = omega (arith, pending_still a (a.st w));
@@ -44,7 +44,7 @@ module _ {m : TaskMemory} {own : List ℕ} {w : ℕ} (a : Able m own w) where
         tasks = h.tasks;
         stored = stored_still a own (a.st w) (own_stored a);
         task_rows_lem = status_set a.ts _ _ _ _ _ _ h.task_rows_lem i (row_fits a.fit a.long i within) held;
-        access_rows_here = h.access_rows_here;
+        access_rows_lem = h.access_rows_lem;
         creation = h.creation;
         left = omega (arith, ap unfinished ready, left_now a i within held);
         pending = omega (arith, pending_still a (a.st w));

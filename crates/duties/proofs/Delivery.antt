@@ -153,7 +153,7 @@ module _ {m : TaskMemory} {own : List ℕ} {w : ℕ} (able : Able m own w) where
       )
 
       pub is_reader : access_number m.accesses to layout.reader ≡ kind
-      is_reader = rw is_to (able.holds.access_rows_here.reader access within)
+      is_reader = rw is_to (able.holds.access_rows_lem.reader access within)
 
       pub is_before : access_number m.accesses to layout.flags ≡ flag_number before
       is_before = rw is_to (row_flags able access within)
@@ -167,7 +167,7 @@ module _ {m : TaskMemory} {own : List ℕ} {w : ℕ} (able : Able m own w) where
         pub rows_after : AccessRows able.ts rows (upd t.flags access after)
         rows_after =
             let number : flag_number before + flag_number d.message.flags ≡ flag_number after = omega arith in
-            let held = flags_set able.ts m.accesses t.flags able.holds.access_rows_here access
+            let held = flags_set able.ts m.accesses t.flags able.holds.access_rows_lem access
             (access_fits able.fit able.long access within) after in
             rw (stored, is_before, is_flags, is_to, number) held
 
@@ -186,10 +186,10 @@ module _ {m : TaskMemory} {own : List ℕ} {w : ℕ} (able : Able m own w) where
         omega (arith, mail_count_lem k, mail_room_lem, length-append d.rest (passed able.ts access before after), ap length one)
 
     -- and for a task to add
-    pub add_room_here : (share : List ℕ) (x : Stand) (ms : List Message) → Stored share x ms (t.adds w)
+    pub add_room_lem : (share : List ℕ) (x : Stand) (ms : List Message) → Stored share x ms (t.adds w)
         → 0 < task_number m.rows task layout.count → task_number m.rows task layout.count ≤ falls
         → get_or share layout.adds_count 0 < layout.add_room
-    add_room_here share x ms k any few =
+    add_room_lem share x ms k any few =
         let count = able.holds.task_rows_lem.count task task_below in
         omega (arith, adds_count_lem k, adds_room (omega (arith, count)) (omega (arith, count)))
 
@@ -231,7 +231,7 @@ module _ {m : TaskMemory} {own : List ℕ} {w : ℕ} (able : Able m own w) where
             tasks = h.tasks;
             stored = stored_now able share stands ms added mails apart (rw (upd_same t.mail w mailed) new);
             task_rows_lem = task_rows_lem;
-            access_rows_here = accesses_held;
+            access_rows_lem = accesses_held;
             creation = h.creation;
             left = h.left ∙ sym same_left;
             pending = omega (arith, now, old_mail, old_stand, new_mail, is_noticed, mail_pending);

@@ -149,7 +149,7 @@ module _ {m : TaskMemory} {own : List ℕ} {w : ℕ} (able : Able m own w) (at :
           lower_fits =
               rw (is_task, changed.1) (
                 (able.long.rows, D.task_few able d, place_now.0.long, place_now.0.adds_at_lem),
-                D.add_room_here able d three (D.stands able d) (D.mailed able d) place_now.0,
+                D.add_room_lem able d three (D.stands able d) (D.mailed able d) place_now.0,
               )
 
           module _ {tasks four : List ℕ} (lower : Lowers m.rows three tasks four (access_number rows to layout.task) by) where

@@ -136,7 +136,7 @@ module _ {m : TaskMemory} {own : List ℕ} {w : ℕ} (a : Able m own w) where
   -- the flags of an access in its row
   module _ (x : ℕ) (within : x < total a.ts) where
     pub row_flags : access_number m.accesses x layout.flags ≡ flag_number (a.t.flags x)
-    row_flags = a.holds.access_rows_here.flags x within
+    row_flags = a.holds.access_rows_lem.flags x within
 
     pub row_small : access_number m.accesses x layout.flags < 64
     row_small = number_small (a.t.flags x) (flags_once a.fit.kept x) _ row_flags

@@ -58,14 +58,14 @@ module _ {m : TaskMemory} {own : List ℕ} {w : ℕ} (a : Able m own w) (at : ge
       let e = a.t.flags o.to in
       let number : flag_number e + 16 * (o.flags.read + 2 * o.flags.write) ≡ flag_number (with e (sent o.flags)) = omega arith in
       let fits = access_fits a.fit a.long o.to o.within in
-      let rows = flags_set a.ts m.accesses a.t.flags h.access_rows_here o.to fits (with e (sent o.flags)) in
+      let rows = flags_set a.ts m.accesses a.t.flags h.access_rows_lem o.to fits (with e (sent o.flags)) in
       let old : notices (a.st w) ≡ 1 = ap notices o.stand in
       rw (← its_tell a.ts a.t (a.st w) w op o.to o.flags o.stand is)
       record {
         tasks = h.tasks;
         stored = stored_still a next free new;
         task_rows_lem = h.task_rows_lem;
-        access_rows_here = rw (o.is_to, o.is_flags, row_flags a o.to o.within, number) rows;
+        access_rows_lem = rw (o.is_to, o.is_flags, row_flags a o.to o.within, number) rows;
         creation = h.creation;
         left = h.left;
         pending = omega (arith, pending_still a free, old);

@@ -87,7 +87,7 @@ module _ {m : TaskMemory} {own : List ℕ} {w : ℕ} (a : Able m own w) where
           tasks = h.tasks;
           stored = stored_still a next (working i cost) new;
           task_rows_lem = received_rows_lem i k within;
-          access_rows_here = h.access_rows_here;
+          access_rows_lem = h.access_rows_lem;
           creation = h.creation;
           left = omega (arith, before, left_now a i within running);
           pending = omega (arith, ap notices x, pending_still a (working i cost));
@@ -133,7 +133,7 @@ module _ {m : TaskMemory} {own : List ℕ} {w : ℕ} (a : Able m own w) where
         tasks = h.tasks;
         stored = stored_still a next (working i n) new;
         task_rows_lem = h.task_rows_lem;
-        access_rows_here = h.access_rows_here;
+        access_rows_lem = h.access_rows_lem;
         creation = h.creation;
         left = h.left;
         pending = omega (arith, ap notices x, pending_still a (working i n));
@@ -196,7 +196,7 @@ module _ {m : TaskMemory} {own : List ℕ} {w : ℕ} (a : Able m own w) (k i : �
         tasks = h.tasks;
         stored = stored_now a next free posted a.t.adds others (λ v d. refl) (rw mine new);
         task_rows_lem = ended_rows_lem a k i 0 p;
-        access_rows_here = h.access_rows_here;
+        access_rows_lem = h.access_rows_lem;
         creation = h.creation;
         left = omega (arith, in_work a k i 0 p, left_now a i (in_plan a k i 0 p) over);
         pending = omega (

@@ -79,8 +79,8 @@ size_none false size e = refl
 module _ {text : List ℕ} {at : ℕ} (in_text : at ≤ length text) {l : Label} {n : ℕ} where
   pub label_told : ReadLabel text at l n → {len next : ℕ} {m more : Bool} → l ≡ labels.Is len next m → m ≡ more
       → Named text at len next more n
-  label_told (unsaid y u reach i) is goes_on_here = no_label_lem y (sym is ∙ i)
-  label_told (said x size y rest e s q i) {len} {next} {m} {more} is goes_on_here =
+  label_told (unsaid y u reach i) is goes_on_lem = no_label_lem y (sym is ∙ i)
+  label_told (said x size y rest e s q i) {len} {next} {m} {more} is goes_on_lem =
       let (formed, whole) = size_is (is_label x) (length x) size s in
       let ends : n ≡ next = cc in
       let on : y ≡ more = cc in

@@ -127,15 +127,15 @@ pub record Told (text : List ℕ) (at : ℕ) (fs : List (List ℕ)) (value : ℕ
   pub fields : Fields text at (fs ++ digits ∷ []) next more
   pub looked : n ≡ next
 
-no_number_here : {A : Type 0} {v next : ℕ} {fits m : Bool} (more : Bool) → numbers.Is v fits next m ≡ no_number more → A
-no_number_here true e = clash (cc)
-no_number_here false e = clash (cc)
+no_number_lem : {A : Type 0} {v next : ℕ} {fits m : Bool} (more : Bool) → numbers.Is v fits next m ≡ no_number more → A
+no_number_lem true e = clash (cc)
+no_number_lem false e = clash (cc)
 
 module _ {text : List ℕ} {at : ℕ} {fs : List (List ℕ)} {then : ℕ} (so : Fields text at fs then true) {a : Number} {n : ℕ} where
   pub number_told : ReadNumber text then a n → {value : ℕ} {fits : Bool} {next : ℕ} {m more : Bool} → a ≡ numbers.Is value fits next m
       → m ≡ more → Told text at fs value fits next more n
-  number_told (unsaid y u reach i) is goes_on_here = no_number_here y (sym is ∙ i)
-  number_told (said x v y rest e s q i) {next = next} {more = more} is goes_on_here =
+  number_told (unsaid y u reach i) is goes_on_lem = no_number_lem y (sym is ∙ i)
+  number_told (said x v y rest e s q i) {next = next} {more = more} is goes_on_lem =
       let ends : n ≡ next = cc in
       let on : y ≡ more = cc in
       record {
@@ -151,7 +151,7 @@ module _ {text : List ℕ} {at : ℕ} {fs : List (List ℕ)} {then : ℕ} (so : 
   -- the field is no number, and is left where the line goes on or has ended
   pub number_untold : ReadNumber text then a n → (more : Bool) → a ≡ no_number more
       → Reaches text then more n × ((x : List ℕ) (m : Bool) (rest : List ℕ) → field_of (drop then text) ≡ cut x m rest → number_of x ≡ none)
-  number_untold (said x v y rest e s q i) more is = no_number_here more (sym i ∙ is)
+  number_untold (said x v y rest e s q i) more is = no_number_lem more (sym i ∙ is)
   number_untold (unsaid y u reach i) more is =
       (rw (same y more (sym i ∙ is)) at reach, λ x m rest q. rw q at u)
     where
@@ -424,13 +424,13 @@ module _ (m n : ℕ) (is : n ≡ clipped m) where
       }
 
 -- an order line, where the place of a line is told
-module _ (p : Plan) (misplaced : Bool) (at_start_here : misplaced ≡ at_start p) (next : ℕ) where
+module _ (p : Plan) (misplaced : Bool) (at_start_lem : misplaced ≡ at_start p) (next : ℕ) where
   module _ (out : Bool) {r : Line} {code seed : ℕ} (o : Ordered (first_fault misplaced out) code seed next r) where
     order_judged : (range : Bool) (order : Order) → out ≡ not range → (range ≡ true → (code_of order ≡ code) × (seed_of order ≡ seed))
         → Judged p (order_line p range order) next r
     order_judged range order is kept =
         let fault : first_fault misplaced out ≡ fault_in (order_line p range order) =
-        fault_is (not (at_start p)) range misplaced out (at_start_here ∙ sym (not-not (at_start p))) is in
+        fault_is (not (at_start p)) range misplaced out (at_start_lem ∙ sym (not-not (at_start p))) is in
         record {
           after = o.after;
           ended = o.ended;

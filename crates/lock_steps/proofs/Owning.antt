@@ -32,7 +32,7 @@ use Rattle.steps.proofs.Choosing.{behind, listed_length, task_known, choice_insi
 use Rattle.lock_steps.specs.Lent.{lock_in, handed_in, with_handed, with_served}
 use Rattle.lock_steps.specs.Going.{Gone, Received, given_by, handed_on}
 use Rattle.lock_steps.proofs.FromLock.{slots_are, Filled, lock_with, after_fill, after_pass, after_leave}
-use Rattle.lock_steps.proofs.Stepping.{tasks_of, code_in, number_in, Leads, workers_few, tasks_few, place_is, goes, tasks_after_here}
+use Rattle.lock_steps.proofs.Stepping.{tasks_of, code_in, number_in, Leads, workers_few, tasks_few, place_is, goes, tasks_after_lem}
 
 -- a giver stands behind the slots of the ready list and before the masks, and at its task's number
 list_still : (device : List ℕ) (task giver at n : ℕ)
@@ -129,10 +129,10 @@ module _ {m : Memory} {own : List ℕ} {w : ℕ} (a : Able m own w) where
         → lock_with a r.ends written m.registrations m.tickets m.cells ≡ lock_after a.c a.s.lock w (lock_op e)
         → (next : List ℕ) → part next ≡ part own → Stationed (station next) to (a.s.queue w) → Slotted a.c.slots (station next) to
         → Leads a (with_handed m r written m.registrations m.tickets m.cells device) next
-    hands_and_goes e is no_task_here to effects after next kept there slot =
+    hands_and_goes e is no_task_lem to effects after next kept there slot =
         rw handed_memory_lem
         (acts_hold a.holds e is (handed_memory r.ends written) next after
-        (tasks_still a.holds e is own next a.lent kept no_task_here)
+        (tasks_still a.holds e is own next a.lent kept no_task_lem)
         (refl, refl, refl)
         (rw effects there)
         (rw effects slot)
@@ -244,7 +244,7 @@ module _ {m : Memory} {own : List ℕ} {w : ℕ} (a : Able m own w) where
           rw out.0.0
           (acts_hold a.holds e happens (with_served m (one_taken m.counts) m.registrations stamped filled left rows) next
           (after_fill a v task fill)
-          (tasks_after_here a e happens (Th.holds task) refl rows next (rw gone.kept (held (tasks_of m) (part own) m.counts.picks w)))
+          (tasks_after_lem a e happens (Th.holds task) refl rows next (rw gone.kept (held (tasks_of m) (part own) m.counts.picks w)))
           (refl, refl, refl)
           (gone.there (a.s.place w) (handing (number_in own)) (a.s.queue w) (own_stationed a) (refl, refl))
           tt
@@ -268,7 +268,7 @@ module _ {m : Memory} {own : List ℕ} {w : ℕ} (a : Able m own w) where
           (acts_hold a.holds e happens
           (with_served m taken m.registrations m.tickets m.cells (given_by left task w) rows) next
           a.holds.lock
-          (tasks_after_here a e happens (Th.takes task) refl rows next (got.does (tasks_of m)).0)
+          (tasks_after_lem a e happens (Th.takes task) refl rows next (got.does (tasks_of m)).0)
           (refl, refl, refl)
           (got.there (a.s.place w) leaving (a.s.queue w) (own_stationed a) refl)
           tt

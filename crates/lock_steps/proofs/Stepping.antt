@@ -90,13 +90,13 @@ module _ {m : Memory} {own : List ℕ} {w : ℕ} (a : Able m own w) where
         refl
 
     -- the tasks after the event's operation on them
-    pub tasks_after_here : (op : Th.Op) → task_op e ≡ some op → (rows next : List ℕ)
+    pub tasks_after_lem : (op : Th.Op) → task_op e ≡ some op → (rows next : List ℕ)
         → T.Does op m.counts.picks (T.memory m.counts.tally m.rows m.accesses) (part own)
         (T.memory m.counts.tally rows m.accesses) (part next) w
         → T.HoldsTasks a.c.workers a.c.tasks (T.memory m.counts.tally rows m.accesses)
         (upd (λ v. part (a.shares v)) w (part next))
         (P.tasks_after a.c.tasks a.s.picks a.s.tasks w (task_op e)) (P.stands_after a.c.tasks a.s.stand w (task_op e))
-    tasks_after_here op its rows next does =
+    tasks_after_lem op its rows next does =
         let may = rw (is, its) at a.fit.may in
         rw (its, ← a.holds.picks)
         (does (tasks_able a refl) may)

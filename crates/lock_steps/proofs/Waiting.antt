@@ -29,7 +29,7 @@ use Rattle.steps.proofs.Standing.{free_of_duty, nothing_to_add, all_created}
 use Rattle.lock_steps.specs.Lent.{with_registrations, with_seen}
 use Rattle.lock_steps.specs.Going.{Gone, Received}
 use Rattle.lock_steps.proofs.FromLock.{slots_are, SeesAt, sees, Took, Registered, ticket_is, after_take, after_try, after_register, after_own, after_receive}
-use Rattle.lock_steps.proofs.Stepping.{tasks_of, code_in, number_in, Leads, tasks_few, place_is, goes, tasks_after_here}
+use Rattle.lock_steps.proofs.Stepping.{tasks_of, code_in, number_in, Leads, tasks_few, place_is, goes, tasks_after_lem}
 
 -- what is received was held out
 held_out : {W : ℕ} {ts : List Task} {t : TT.Tasks} {x : TT.Stand} {w i : ℕ} → Th.Can W ts t x w (Th.receives i) → t.status i ≡ TT.held
@@ -127,7 +127,7 @@ module _ {m : Memory} {own : List ℕ} {w : ℕ} (a : Able m own w) where
       receive_acts rows next got =
           acts_hold a.holds (receives (number_in own) i) receives_it (with_seen m m.counts m.wait m.tickets m.cells rows) next
           (after_receive a (number_in own) i)
-          (tasks_after_here a (receives (number_in own) i) receives_it (Th.receives i) refl rows next (got.does (tasks_of m)).1)
+          (tasks_after_lem a (receives (number_in own) i) receives_it (Th.receives i) refl rows next (got.does (tasks_of m)).1)
           (refl, refl, refl)
           (got.there (a.s.place w) idle (a.s.queue w) (own_stationed a) refl)
           tt

@@ -46,7 +46,7 @@ pub record HoldsTasks (W : ℕ) (ts : List Task) (m : TaskMemory) (parts : ℕ �
   pub tasks : m.tally.tasks ≡ length ts
   pub stored : (v : ℕ) → v < W → Stored (parts v) (st v) (t.mail v) (t.adds v)
   pub task_rows_lem : TaskRows ts m.rows t.count t.status t.runner t.receipt t.ending
-  pub access_rows_here : AccessRows ts m.accesses t.flags
+  pub access_rows_lem : AccessRows ts m.accesses t.flags
   pub creation : Making m.tally.opened m.tally.task m.tally.access t.creation
   -- tasks that are not over; messages and notices that are pending
   pub left : m.tally.left ≡ sum (length ts) (λ i. unfinished (t.status i))

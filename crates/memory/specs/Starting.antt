@@ -28,12 +28,12 @@ pub starts : (W : ℕ) (ts : List Task) (rows accesses : List ℕ) (parts : ℕ 
     → ((v : ℕ) → v < W → Stored (parts v) free [] [])
     → HoldsTasks W ts (memory (fresh_tally (length ts)) rows accesses) parts start (λ _. free)
 unfolding start
-starts W ts rows accesses parts task_rows_lem access_rows_here stored =
+starts W ts rows accesses parts task_rows_lem access_rows_lem stored =
     record {
       tasks = refl;
       stored = stored;
       task_rows_lem = task_rows_lem;
-      access_rows_here = access_rows_here;
+      access_rows_lem = access_rows_lem;
       creation = (refl, refl);
       left = omega (arith, sum_const (length ts) 1);
       pending = omega (arith, sum_const W 0);

@@ -143,7 +143,7 @@ module _ {end : ℕ} {m₀ : Memory} {store₀ : List ℕ} {line₀ : Source} {m
   pub goes_pick : m.counts.picks < end → ((c : Setup) (s : State) → Holds c m (share store) s → false ≡ finished c s)
       → (drawn : Drawn) → Draws m.counts.workers line drawn → {n : Memory} {then : List ℕ} → Kept m store n then
       → Stepped m store drawn.worker n then → Goes end m₀ store₀ line₀ n then drawn.source
-  goes_pick below goes_on_here drawn d kept one =
+  goes_pick below goes_on_lem drawn d kept one =
       record {
         kept = kept_more g.kept kept;
         reaches = λ c s₀ u h.
@@ -154,6 +154,6 @@ module _ {end : ℕ} {m₀ : Memory} {store₀ : List ℕ} {line₀ : Source} {m
               s = step c r.s drawn.worker;
               under = under_pick c end r.s line r.under lower drawn own;
               holds = one c r.s r.holds (pick_fits c end r.s line r.under lower drawn own);
-              comes_to = drawn_pick c end r.s line r.under lower drawn own (sym (goes_on_here c r.s r.holds)) ∙ r.comes_to;
+              comes_to = drawn_pick c end r.s line r.under lower drawn own (sym (goes_on_lem c r.s r.holds)) ∙ r.comes_to;
             };
       }

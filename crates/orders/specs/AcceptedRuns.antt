@@ -129,11 +129,11 @@ module _ (text : List ℕ) (p : Plan) (e : reading text ≡ accepted p) where
   own_taken limit =
       let all = picks_of_all p.workers p.orders in
       let (a, b) = Safety.picks_counted (setup_of p) playable (picks_up_to limit p) (own_picks limit) in
-      let (stops, goes_on_here) = Safety.taken_until (setup_of p) playable (picks_up_to limit p) (own_picks limit) in (
+      let (stops, goes_on_lem) = Safety.taken_until (setup_of p) playable (picks_up_to limit p) (own_picks limit) in (
         ⊎_elim (λ e. inl (e ∙ length-take limit all)) inr stops,
         λ n l.
             let front : take n (picks_up_to limit p) ≡ picks_up_to n p = take-take n limit all (omega (arith, length-take limit all)) in
-            rw front at (goes_on_here n l),
+            rw front at (goes_on_lem n l),
       )
 
   -- where the finishing figure applies the run is finished, with no more picks taken than that

@@ -163,7 +163,7 @@ module _ (p : Plan) (h : Begun p) (k : ℕ) where
 
   keeps_task : (t : Task) → is_label t.label ≡ true → MaskFormed p.workers t.mask → Keeps (some (task_line p t))
   keeps_task t formed masked (place, range) =
-      let (low_cost, low_addresses_here) = both _ _ range.0 in
+      let (low_cost, low_addresses_lem) = both _ _ range.0 in
       let (few_tasks, few_accesses) = both _ _ range.1.0 in
       let (some_label, short_label) = within_bounds 1 16 (length t.label) (both _ _ formed).0 in
       let some_workers = started (has_orders p) place in
@@ -181,7 +181,7 @@ module _ (p : Plan) (h : Begun p) (k : ℕ) where
                     label_short = short_label;
                     cost_low = leb-true _ _ low_cost;
                     accesses_few = leb-true (length t.accesses) 4 few_accesses;
-                    addresses_low = λ i l d. leb-true _ _ (every_each (λ a. nat_le a.address 65535) t.accesses low_addresses_here i l d);
+                    addresses_low = λ i l d. leb-true _ _ (every_each (λ a. nat_le a.address 65535) t.accesses low_addresses_lem i l d);
                     addresses_once = not-true (repeats t.accesses) range.1.1.0;
                     mask_formed = masked;
                   });

@@ -43,9 +43,9 @@ two_faults =
     ∷ []
 
 -- by computation
-pub two_faults_here : AllRefused two_faults
+pub two_faults_lem : AllRefused two_faults
 unfolding bytes every all_of split value_after number_of access_of line_by line_of_fields repeats first_refusal read_lines reading
-two_faults_here = (refl, (refl, (refl, (refl, (refl, (refl, (refl, (refl, (refl, (refl, tt))))))))))
+two_faults_lem = (refl, (refl, (refl, (refl, (refl, (refl, (refl, (refl, (refl, (refl, tt))))))))))
 
 -- W lines that are not of the first form
 abbrev pub workers_faults : List Faulty
@@ -70,9 +70,9 @@ workers_faults =
     ∷ faulty "W\t2\t1\t1\nT\n" TooFewSlots 1
     ∷ []
 
-pub workers_faults_here : AllRefused workers_faults
+pub workers_faults_lem : AllRefused workers_faults
 unfolding bytes every split value_after number_of line_by line_of_fields first_refusal read_lines reading
-workers_faults_here = (refl, (refl, (refl, (refl, (refl, (refl, (refl, (refl, (refl, (refl, (refl, (refl, (refl, tt)))))))))))))
+workers_faults_lem = (refl, (refl, (refl, (refl, (refl, (refl, (refl, (refl, (refl, (refl, (refl, (refl, (refl, tt)))))))))))))
 
 -- M lines
 abbrev pub mask_faults : List Faulty
@@ -101,6 +101,6 @@ mask_faults =
     ∷ faulty "W\t2\nT\ta\t0\nM\t0\nT\n" EmptyMask 3
     ∷ []
 
-pub mask_faults_here : AllRefused mask_faults
+pub mask_faults_lem : AllRefused mask_faults
 unfolding bytes every all_of split value_after number_of mask_last ends_unmasked line_by line_of_fields repeats first_refusal read_lines reading
-mask_faults_here = (refl, (refl, (refl, (refl, (refl, (refl, (refl, (refl, (refl, (refl, (refl, (refl, (refl, (refl, (refl, tt)))))))))))))))
+mask_faults_lem = (refl, (refl, (refl, (refl, (refl, (refl, (refl, (refl, (refl, (refl, (refl, (refl, (refl, (refl, (refl, tt)))))))))))))))

@@ -242,8 +242,8 @@ module _ {text : List ℕ} {begin : ℕ} {p : Plan} {line : Line} {at : ℕ} {a 
         → {writes address next : ℕ} {more : Bool} {b : Accesses} {after : List ℕ} → r ≡ accesses.Is writes address next more
         → ((u : Placed) (ys : List Access) (w : Bool) → writes ≡ bit w → Reads u ys a row → Reads u (ys ++ access w address ∷ []) b after)
         → InLine text begin p line next more b after
-    access_read (unsaid m u reach i) is with_access_here = no_access_lem m (sym is ∙ i)
-    access_read (said x y m rest e s q i) {writes} {address} {next} {more} is with_access_here =
+    access_read (unsaid m u reach i) is with_access_lem = no_access_lem m (sym is ∙ i)
+    access_read (said x y m rest e s q i) {writes} {address} {next} {more} is with_access_lem =
         let ends : next ≡ at + (length x + 1) = cc in
         let same : more ≡ m = cc in
         let bits : writes ≡ bit y.writes = cc in
@@ -262,7 +262,7 @@ module _ {text : List ℕ} {begin : ℕ} {p : Plan} {line : Line} {at : ℕ} {a 
           stands = t.stands;
           reads =
               rw (map-append (λ (a : Access). access a.writes (clipped a.address)) t.xs (y ∷ []), ← clip)
-              (with_access_here (bare (begin + 2) t.label t.cost) (seen t.xs) y.writes bits t.reads);
+              (with_access_lem (bare (begin + 2) t.label t.cost) (seen t.xs) y.writes bits t.reads);
           judges = t.judges;
           kind = t.kind;
         })

@@ -90,10 +90,10 @@ module _ (c : Setup) (few : c.workers ≤ most_workers) where
       accesses)
       (share store) (start c)
   unfolding start
-  starts ends wait registrations tickets cells device rows accesses store long zeros givers masks lock task_rows_lem access_rows_here =
+  starts ends wait registrations tickets cells device rows accesses store long zeros givers masks lock task_rows_lem access_rows_lem =
       record {
         lock = lock;
-        tasks = tasks.starts c.workers c.tasks rows accesses (λ v. part (share store v)) task_rows_lem access_rows_here
+        tasks = tasks.starts c.workers c.tasks rows accesses (λ v. part (share store v)) task_rows_lem access_rows_lem
             (λ v l. tasks.part_starts (part (share store v)) (part_long store long zeros v (omega arith))
             (zero_part store long zeros v (omega arith)));
         device = record {

@@ -18,5 +18,5 @@ share_next store w =
     (drop-drop share_size (w * share_size) store ∙ ap (λ n. drop n store) next)
 
 -- 32 of them are the store's first 8,192 numbers
-pub shares_size_here : shares_size ≡ 8192
-shares_size_here = refl
+pub shares_size_lem : shares_size ≡ 8192
+shares_size_lem = refl

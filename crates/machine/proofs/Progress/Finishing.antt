@@ -124,8 +124,8 @@ module _ (c : Setup) (playable : Playable c) where
       ∙ mul_comm (work c (start c)) (B * per_progress c)
       ∙ ap (λ n. B * per_progress c * n) (work_start c playable)
 
-  at_start_here : AtMost (work c (start c)) (start c)
-  at_start_here = ((inv_start c playable, creates_start c), omega arith)
+  at_start_lem : AtMost (work c (start c)) (start c)
+  at_start_lem = ((inv_start c playable, creates_start c), omega arith)
 
   -- from any state that picks lead to: no more work is left there than at the start
   finishes_from : (B : ℕ) (ws : List ℕ) → Picks c.workers ws → Regular c.workers B ws
@@ -143,7 +143,7 @@ module _ (c : Setup) (playable : Playable c) where
   unfolding after
   finishes_after us h B ws p q long =
       let s = run (pick c) (start c) us in
-      let kept = run_keeps (pick c) c.workers (AtMost (work c (start c))) (at_most_pick (work c (start c))) us h (start c) at_start_here in
+      let kept = run_keeps (pick c) c.workers (AtMost (work c (start c))) (at_most_pick (work c (start c))) us h (start c) at_start_lem in
       let (n, a, b, e) = finishes_from B ws p q s kept long in
       rw (run_append (pick c) (start c) us ws, run_drop (pick c) s n ws, run_finished c (run (pick c) s (take n ws)) e (drop n ws)) e
 
@@ -151,7 +151,7 @@ module _ (c : Setup) (playable : Playable c) where
       (long : B * per_progress c * (7 * length c.tasks + 7 * total c.tasks + total_cost c.tasks) ≤ length ws) where
     pub finishes_within : Within (pick c) (λ s. finished c s ≡ true)
         (B * per_progress c * (7 * length c.tasks + 7 * total c.tasks + total_cost c.tasks)) ws (start c)
-    finishes_within = rw (sym (in_rounds B)) (finishes_from B ws p q (start c) at_start_here long)
+    finishes_within = rw (sym (in_rounds B)) (finishes_from B ws p q (start c) at_start_lem long)
 
     -- the state after the list is the one in which the run was finished first
     settled : (n : ℕ) × (n ≤ figure B) × (n ≤ length ws) × (finished c (run (pick c) (start c) (take n ws)) ≡ true)

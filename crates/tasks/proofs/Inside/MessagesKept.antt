@@ -166,9 +166,9 @@ module _ (W : ℕ) (ts : List Task) (laws : Links ts) (st : ℕ → Stand) (mail
       )
 
   -- the notice takes the place of the message
-  notice_of_here : (f : Flags → ℕ) (a : ℕ) (o : Option ℕ) → tells f a (notice_of m o) ≡ by_sender a o (f m.flags)
-  notice_of_here f a none = refl
-  notice_of_here f a (some b) = refl
+  notice_of_lem : (f : Flags → ℕ) (a : ℕ) (o : Option ℕ) → tells f a (notice_of m o) ≡ by_sender a o (f m.flags)
+  notice_of_lem f a none = refl
+  notice_of_lem f a (some b) = refl
 
   deliver_sents : (r : Right) (a : ℕ)
       → sent_of r (flags' a) + pending W (granted r) st' a + under_way W (out_of (granted r) a) mail' ≡ passing ts flags' r a
@@ -179,7 +179,7 @@ module _ (W : ℕ) (ts : List Task) (laws : Links ts) (st : ℕ → Stand) (mail
         here_zero a m.to,
         sum_upd W (tells (granted r) a) st w (notice_of m m.sender) hw,
         ap (tells (granted r) a) p,
-        notice_of_here (granted r) a m.sender,
+        notice_of_lem (granted r) a m.sender,
         way_delivered W (out_of (granted r) a) mail w hw m ms (passed ts m.to (flags m.to) raised) q,
         weigh_passed ts m.to (flags m.to) raised (out_of (granted r) a)
             (λ x y. ap (here a m.to) (pass_nothing r x y) ∙ here_zero a m.to),

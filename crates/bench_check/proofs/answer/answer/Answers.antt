@@ -14,7 +14,7 @@ returns-in-Accepted c =
     let text = c.args.text.now in
     let put = c.put_accepted in
     let answer = c.check-answer.ensures.answer in
-    let is = sym (ap (λ (r : CheckedText). r.checked) answer) ∙ c.enum_told-1.given.1 in
+    let is = sym (ap (λ (r : CheckedText). r.checked) answer) ∙ c.in-Accepted.is in
     let looks = ap (λ (r : CheckedText). r.looks) answer in
     rw (← accepted_prints text is, ← looks) (line_front (accepted_fields _) put.ensures.0 (omega (arith, put.ensures.1, c.requires)))
 
@@ -22,8 +22,7 @@ pub returns-in-Refused : goal.returns-in-Refused
 returns-in-Refused c =
     let text = c.args.text.now in
     let put = c.put_refusal in
-    let told = c.checked-1.given in
     let answer = c.check-answer.ensures.answer in
-    let is = sym (ap (λ (r : CheckedText). r.checked) answer) ∙ told.1 in
+    let is = sym (ap (λ (r : CheckedText). r.checked) answer) ∙ c.in-Refused.is in
     rw (← refused_prints text _ _ is)
-    (line_front (refusal_fields (number told.0.0) told.0.1.0) put.ensures.0 (omega (arith, put.ensures.1, c.requires)))
+    (line_front (refusal_fields (number _) _) put.ensures.0 (omega (arith, put.ensures.1, c.requires)))

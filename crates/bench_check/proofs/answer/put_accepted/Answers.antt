@@ -18,6 +18,6 @@ unfolding bytes
 returns c =
     let number = c.put_number in
     let letter = c.put_field-next in (
-      wrote_field letter.ensures (wrote_last number.ensures.1 refl),
-      omega (arith, short_next 1 (omega arith) letter.ensures, number.ensures.0),
+      wrote_field letter.ensures (wrote_last number.ensures.wrote refl),
+      omega (arith, short_next 1 (omega arith) letter.ensures, number.ensures.short),
     )

@@ -5,7 +5,7 @@ use mathlib.Core.Path.{◌≡◌}
 use lib.ListN.{length}
 use Rattle.memory.specs.Layout as layout
 use Rattle.memory.specs.Memory.{memory, end_of}
-use Rattle.duties.proofs.Creating.{to_create_here, one_opened, task_few, end_few}
+use Rattle.duties.proofs.Creating.{to_create_lem, one_opened, task_few, end_few}
 use Rattle.duties.proofs.create.create.Goals as goal
 
 pub open-requires : goal.open-requires
@@ -13,7 +13,7 @@ open-requires c =
     let ((w, a), adds, mail, more) = c.requires in
     let x = c.args in
     let none = c.if-n-eq0.true in
-    ((memory x.n x.rows.now x.accesses.now, x.own.now, w, a), none, to_create_here x.n more none)
+    ((memory x.n x.rows.now x.accesses.now, x.own.now, w, a), none, to_create_lem x.n more none)
 
 pub returns-then-n-eq0 : goal.returns-then-n-eq0
 returns-then-n-eq0 c k w =

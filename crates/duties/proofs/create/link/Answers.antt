@@ -52,7 +52,7 @@ pub returns : goal.returns
 returns c m k w l a op is =
     let n = c.args.n in
     let message = link_message a.ts n.access in
-    let prev = a.holds.access_rows_here.prev n.access (access_below a c.requires.2 l) in
+    let prev = a.holds.access_rows_lem.prev n.access (access_below a c.requires.2 l) in
     -- either way the message is posted
     let posted : Stored c.if-prev-eq0.own (a.st w) (a.t.mail w ++ message ∷ []) (a.t.adds w) =
     elim c.if-prev-eq0.branch [

@@ -13,7 +13,7 @@ returns-then-more c =
     let is = c.in-Is.is in
     let t = first_told c.requires.0 read.ensures is
     c.if-more.true in
-    λ p in_range order at_start_here before coded.
+    λ p in_range order at_start_lem before coded.
     one_goes_on c.requires.0 p (count_line p in_range c.args.most order) c.wrong-then-more.ensures t
 
 pub order_line-requires : goal.order_line-requires
@@ -31,13 +31,13 @@ order_line-requires c e =
 
 pub returns-in-Malformed : goal.returns-in-Malformed
 returns-in-Malformed c =
-    λ p in_range order at_start_here before coded.
+    λ p in_range order at_start_lem before coded.
     one_untold c.requires.0 p (count_line p in_range c.args.most order) true c.wrong.ensures _
     c.read_number.ensures c.in-Malformed.is
 
 pub returns-in-MalformedAtEnd : goal.returns-in-MalformedAtEnd
 returns-in-MalformedAtEnd c =
-    λ p in_range order at_start_here before coded.
+    λ p in_range order at_start_lem before coded.
     one_untold c.requires.0 p (count_line p in_range c.args.most order) false c.wrong-in-MalformedAtEnd.ensures _
     c.read_number.ensures c.in-MalformedAtEnd.is
 
@@ -51,7 +51,7 @@ returns-else-more c =
     let far = c.outside in
     let out = c.either-any_out in
     let line = c.order_line.ensures in
-    λ p in_range order at_start_here before coded.
+    λ p in_range order at_start_lem before coded.
     one_formed (count_line p in_range a.most order) t
-    (count_judged p a.misplaced at_start_here told.next in_range a.most order t.number told.n a.who a.out
+    (count_judged p a.misplaced at_start_lem told.next in_range a.most order t.number told.n a.who a.out
     far.result out.result c.requires.1 t.held before far.ensures out.ensures coded line)
