@@ -1,6 +1,6 @@
 -- What is printed for a text, by the verdict. Assumes nothing.
 use Prim.Native.Nat.{ℕ}
-use mathlib.Core.Path.{◌≡◌, refl, ap}
+use mathlib.Core.Path.{◌≡◌, refl}
 use mathlib.Core.List.{List}
 use Rattle.runs.specs.Update.{clash}
 use Rattle.refusals.specs.declared.Refusal.{Refusal}
@@ -10,7 +10,7 @@ use Rattle.text.specs.Text.{line}
 use Rattle.plan.specs.Reading.{Reading, accepted, refused, reading}
 use Rattle.reader.specs.declared.Checked.TheVariants.{Accepted, Refused}
 use Rattle.reader.specs.Verdict.{checked_as, verdict}
-use Rattle.tools.specs.Result.{Result, result, of_plan, printed}
+use Rattle.tools.specs.Result.{result, of_plan, printed}
 use Rattle.bench_check.specs.Checking.{accepted_fields, checking}
 
 module _ (text : List ℕ) where

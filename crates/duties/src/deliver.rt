@@ -88,9 +88,9 @@ fn give_notice(own: &mut [u64], sender: u64, flags: u64) -> u64
 
 // Lowers the count of a task; where that brings it to 0 the worker has the task to add.
 pub(crate) fn lower(rows: &mut [u64], own: &mut [u64], task: u64, by: u64)
-    requires rows_len { (length rows.old ≡ layout.task_rows) × (task < layout.most_tasks)
+    requires lengths { (length rows.old ≡ layout.task_rows) × (task < layout.most_tasks)
         × (length own.old ≡ layout.part) × (get_or own.old layout.adds_at 0 < layout.add_room) }
-    requires adds_count_bound { 0 < task_number rows.old task layout.count → task_number rows.old task layout.count ≤ by
+    requires adds { 0 < task_number rows.old task layout.count → task_number rows.old task layout.count ≤ by
         → get_or own.old layout.adds_count 0 < layout.add_room }
     ensures { (ts : List Task) (s : Tasks) (w : ℕ) (p : Stand) (mail : List Message) →
         task < length ts → TaskRows ts rows.old s.count s.status s.runner s.receipt s.ending →

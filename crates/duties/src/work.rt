@@ -15,8 +15,8 @@ use memory::tally::Tally;
 
 // Posts DONE to each of so many accesses from `first` on.
 fn post_done(own: &mut [u64], first: u64, count: u64)
-    requires by_index { (p : Stand) × (mail : List Message) × (adds : List ℕ) × Stored own.old p mail adds }
-    requires count_bound { (get_or own.old layout.mail_count 0 + count ≤ layout.mail_room) × (first + count ≤ layout.most_accesses) }
+    requires stored { (p : Stand) × (mail : List Message) × (adds : List ℕ) × Stored own.old p mail adds }
+    requires has_room { (get_or own.old layout.mail_count 0 + count ≤ layout.mail_room) × (first + count ≤ layout.most_accesses) }
     ensures { (ts : List Task) (i : ℕ) (p : Stand) (mail : List Message) (adds : List ℕ) → Stored own.old p mail adds →
         first ≡ Rattle.tasks.specs.Accesses.first ts i → count ≡ length (task_at ts i).accesses
         → Stored own.new p (mail ++ done_messages ts i) adds }

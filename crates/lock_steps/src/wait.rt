@@ -13,8 +13,8 @@ use steps::{Counts, with_ends};
 
 // Takes a ticket: worker 0 only after the last task is created.
 pub fn ticket_step(n: Counts, own: &mut [u64], w: u64) -> Counts
-    requires place_at_value { ((m : Memory) × Able (with_counts m n) own.old w) × (get_or own.old place_at 0 ≡ IDLE) }
-    requires stand_value { (get_or own.old (station_size + part.stand) 0 ≡ 0) × (get_or own.old (station_size + part.mail_count) 0 ≡ 0)
+    requires place { ((m : Memory) × Able (with_counts m n) own.old w) × (get_or own.old place_at 0 ≡ IDLE) }
+    requires nothing_due { (get_or own.old (station_size + part.stand) 0 ≡ 0) × (get_or own.old (station_size + part.mail_count) 0 ≡ 0)
         × (get_or own.old (station_size + part.adds_count) 0 ≡ 0) × ((w ≢ 0) ⊎ (to_create n.tally ≡ false)) }
     ensures { (m : Memory) → Acts (with_counts m n) own.old (with_counts m result) own.new w }
 {

@@ -3,7 +3,7 @@ use Rattle.std.specs.Prelude.{ℕ, suc, ◌<◌, ◌≡◌, ◌⊎◌, List, len
 use Rattle.std.proofs.Common.{arith, ap, ⊎_elim}
 use Rattle.runs.specs.Update.{clash}
 use Rattle.runs.specs.Picks.{Picks}
-use Rattle.tasks.specs.Tasks.{held, is_received}
+use Rattle.tasks.specs.Tasks.{is_received}
 use Rattle.machine.specs.State.{Setup, looking, State, start}
 use Rattle.machine.specs.Step.{after}
 use Rattle.machine.specs.Trace.{Happening, trace}

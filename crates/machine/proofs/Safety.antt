@@ -35,7 +35,6 @@ use Rattle.machine.specs.Safety.Bounds.{Roomy, Small}
 use Rattle.machine.proofs.Safety.Bounds.{roomy_start, roomy_step, ready_length, small_start, small_step}
 use Rattle.machine.specs.Safety.Invariant.{Playable, Inv}
 use Rattle.machine.proofs.Safety.Invariant.{may_do, inv_after}
-
 pub mod Locked
 pub mod Owners
 pub mod Dues

@@ -16,7 +16,7 @@ use Rattle.machine.specs.State.{Setup, Place, idle, trying, registering, looking
 use Rattle.machine.specs.Ready.{nothing, chosen, choose}
 use Rattle.machine.proofs.Ready.{choose_first, choose_nowhere}
 use Rattle.machine.specs.Event.{Event, fills, takes, takes_none, most_served, may, choice, taking, serving_with, serving_or_taking, standing_at}
-use Rattle.machine.specs.Step.{apply, step, finished, pick, after}
+use Rattle.machine.specs.Step.{apply, step, finished, after}
 use Rattle.machine.specs.Unmasked.{first_served_or_taken, standing_before, step_before, after_before}
 
 -- ---- the same

@@ -8,7 +8,7 @@ use Rattle.lock.specs.Lock as L
 use Rattle.tasks.specs.History.{Duty}
 use Rattle.tasks.specs.Duties.{duty, creating, Duties, at_rest, has_duty, Creates, created, creates, duties, creating_goes}
 use Rattle.machine.specs.State.{Setup, Place, idle, trying, registering, looking, draining, serving, handing, leaving, State, picked}
-use Rattle.machine.specs.Event.{Event, pushes, finds_full, tries_and_owns, tries_in_vain, takes_ticket, receives, owns, most_served, creating_first, idling, choice, taking, serving_with, serving_or_taking, seeing, standing_at, event}
+use Rattle.machine.specs.Event.{Event, pushes, finds_full, tries_and_owns, tries_in_vain, takes_ticket, most_served, creating_first, idling, choice, taking, serving_with, serving_or_taking, seeing, standing_at, event}
 use Rattle.machine.specs.Ready.{Choice, nothing, chosen}
 use Rattle.machine.specs.View.{AtRest, does_wait, does_take, does_take_none, does_mind, does_leave, does_register, does_push}
 use Rattle.machine.specs.View.{does_fail, Does, does_own, does_hand_over, does_take_ticket, does_drain, does_find_full}

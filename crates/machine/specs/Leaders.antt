@@ -6,8 +6,8 @@ use Rattle.lock.specs.History as LH
 use Rattle.machine.specs.declared.Leader.TheVariants.{Nobody, Owner, Due}
 use Rattle.machine.specs.State.{Setup, State}
 use Rattle.machine.specs.Event.{owns, registers, event}
-use Rattle.machine.specs.Step.{finished, pick, after}
-use Rattle.machine.specs.Whereabouts.{lock_stand, owner, due, leader}
+use Rattle.machine.specs.Step.{finished, after}
+use Rattle.machine.specs.Whereabouts.{lock_stand, leader}
 use Rattle.machine.specs.Safety.Dues.{DueWith}
 
 -- ---- the three cases

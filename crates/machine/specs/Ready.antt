@@ -1,6 +1,6 @@
 -- The ready list, by its two operations: tasks arrive, and the first that a worker may run is chosen. What is said of them here is all that
 -- anybody uses of the order in the list.
-use Rattle.std.specs.Prelude.{ℕ, ◌+◌, ◌≡◌, Bool, true, false, List, [], ◌∷◌, ◌++◌}
+use Rattle.std.specs.Prelude.{ℕ, ◌≡◌, Bool, true, false, List, [], ◌∷◌, ◌++◌}
 use Rattle.runs.specs.Counts.{is}
 
 -- tasks arrive, the oldest first: in order of arrival, at the end of the list

@@ -8,7 +8,7 @@ use Rattle.runs.specs.Traces as Traces
 use Rattle.lock.specs.Lock as L
 use Rattle.machine.specs.State.{Setup, Place, idle, trying, registering, looking, draining, serving, handing, leaving, State, start, picked}
 use Rattle.machine.specs.Event.{Event, fills, takes, takes_none, most_served, standing_at}
-use Rattle.machine.specs.Step.{apply, finished, pick}
+use Rattle.machine.specs.Step.{apply, finished}
 
 -- ---- the base's rule
 

@@ -58,9 +58,9 @@ fn summary_of(
     cells: &[u64],
     masks: &[u64],
 ) -> Summary
-    requires shares_size_in_bounds { (shares_size ≤ length store.now) × (n.workers ≤ most_workers) × (0 < n.slots) × (n.slots ≤ length wait.now)
+    requires room { (shares_size ≤ length store.now) × (n.workers ≤ most_workers) × (0 < n.slots) × (n.slots ≤ length wait.now)
         × (most_workers ≤ length tickets.now) × (most_workers ≤ length cells.now) }
-    requires most_tasks_in_bounds { (layout.most_tasks ≤ length masks.now) × (n.tally.tasks ≤ layout.most_tasks)
+    requires masks { (layout.most_tasks ≤ length masks.now) × (n.tally.tasks ≤ layout.most_tasks)
         × ((i : ℕ) → i < n.tally.tasks → get_or masks.now i 0 < 2 ^ 32) }
     ensures numbers { (result.picks ≡ n.picks) × (result.head ≡ n.ends.head.0) × (result.tail ≡ n.ends.tail.0)
         × (result.tasks ≡ n.tally.tasks) × (result.permitted ≡ ones_of masks.now n.tally.tasks) }
@@ -90,7 +90,7 @@ fn has_room(
     givers: &[u64],
     size: usize,
 ) -> bool
-    requires rows_len { (length rows.now ≡ layout.task_rows) × (length labels.now ≡ layout.label_rows)
+    requires lengths { (length rows.now ≡ layout.task_rows) × (length labels.now ≡ layout.label_rows)
         × (layout.most_tasks ≤ length givers.now) × (summary.tasks ≤ layout.most_tasks) }
     requires small { (c : Setup) × (s : State) × Small c s × Shown c s summary rows.now labels.now givers.now text.now }
     ensures { (c : Setup) (s : State) → Small c s →
@@ -117,7 +117,7 @@ fn answer_of(
     store: &[u64],
     output: &mut [u8],
 ) -> Answer
-    requires shares_size_in_bounds { (shares_size ≤ length store.now) × (length wait.now ≡ most_slots) × (length tickets.now ≡ most_workers)
+    requires room { (shares_size ≤ length store.now) × (length wait.now ≡ most_slots) × (length tickets.now ≡ most_workers)
         × (length cells.now ≡ most_workers) × (length device.now ≡ device_size) × (length rows.now ≡ layout.task_rows)
         × (length labels.now ≡ layout.label_rows) }
     requires sized { (m : Memory) × (c : Setup) × (s : State) × Sized c × Small c s × Labels c.tasks text.now labels.now
@@ -154,9 +154,9 @@ fn set_up(
     accesses: &mut [u64],
     labels: &mut [u64],
 ) -> Counts
-    requires device_len { (length device.old ≡ device_size) × (length rows.old ≡ layout.task_rows)
+    requires lengths { (length device.old ≡ device_size) × (length rows.old ≡ layout.task_rows)
         × (length accesses.old ≡ layout.access_rows) × (length labels.old ≡ layout.label_rows) }
-    requires by_index { (text : List ℕ) × (p : Plan) × (reading text ≡ accepted p) × LoadedTasks text plan.now workers form count p }
+    requires loaded { (text : List ℕ) × (p : Plan) × (reading text ≡ accepted p) × LoadedTasks text plan.now workers form count p }
     ensures { (text : List ℕ) (p : Plan) (store : List ℕ) → reading text ≡ accepted p →
         LoadedTasks text plan.now workers form count p →
         shares_size ≤ length store → take shares_size store ≡ replicate shares_size 0 →
@@ -193,12 +193,12 @@ fn run_in(
     store: &mut [u64],
     output: &mut [u8],
 ) -> Answer
-    requires shares_size_in_bounds { (shares_size ≤ length store.old) × (take shares_size store.old ≡ replicate shares_size 0) }
-    requires wait_len { (length wait.old ≡ most_slots) × (length registrations.old ≡ most_slots) × (length tickets.old ≡ most_workers)
+    requires room { (shares_size ≤ length store.old) × (take shares_size store.old ≡ replicate shares_size 0) }
+    requires lengths { (length wait.old ≡ most_slots) × (length registrations.old ≡ most_slots) × (length tickets.old ≡ most_workers)
         × (length cells.old ≡ most_workers) × (length device.old ≡ device_size) × (length rows.old ≡ layout.task_rows)
         × (length accesses.old ≡ layout.access_rows) × (length labels.old ≡ layout.label_rows)
         × Given layout.most_tasks device.old (λ _. none) }
-    requires text_value { (p : Plan) × (reading text.now ≡ accepted p) × Loaded text.now plan.now lines.now read p }
+    requires loaded { (p : Plan) × (reading text.now ≡ accepted p) × Loaded text.now plan.now lines.now read p }
     ensures answer { (p : Plan) (left : List ℕ) → reading text.now ≡ accepted p →
         Loaded text.now plan.now lines.now read p →
         (result ≡ (written left output.old (reached p limit).picks (report_of p limit)).answer)
@@ -249,8 +249,8 @@ pub fn run_plan(
     store: &mut [u64],
     output: &mut [u8],
 ) -> Answer
-    requires shares_size_in_bounds { (shares_size ≤ length store.old) × (take shares_size store.old ≡ replicate shares_size 0) }
-    requires text_value { (p : Plan) × (reading text.now ≡ accepted p) × Loaded text.now plan.now lines.now read p }
+    requires room { (shares_size ≤ length store.old) × (take shares_size store.old ≡ replicate shares_size 0) }
+    requires loaded { (p : Plan) × (reading text.now ≡ accepted p) × Loaded text.now plan.now lines.now read p }
     ensures answer { (p : Plan) (left : List ℕ) → reading text.now ≡ accepted p →
         Loaded text.now plan.now lines.now read p →
         (result ≡ (written left output.old (reached p limit).picks (report_of p limit)).answer)

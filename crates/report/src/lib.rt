@@ -82,7 +82,7 @@ pub fn put_report(
     givers: &[u64],
     output: &mut [u8],
 ) -> usize
-    requires tasks_len { (length tasks.now ≡ layout.task_rows) × (length labels.now ≡ layout.label_rows)
+    requires lengths { (length tasks.now ≡ layout.task_rows) × (length labels.now ≡ layout.label_rows)
         × (layout.most_tasks ≤ length givers.now) × (summary.tasks ≤ layout.most_tasks) }
     requires shown { (c : Setup) × (s : State) × Shown c s summary tasks.now labels.now givers.now text.now }
     ensures { (c : Setup) (s : State)

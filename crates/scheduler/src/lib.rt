@@ -80,7 +80,7 @@ fn step_own(
 ) -> Counts
     requires able { Able (memory n wait.old registrations.old tickets.old cells.old device.old rows.old accesses.old)
         own.old w }
-    requires place_at_nonzero { (get_or own.old place_at 0 ≢ DRAINING_TO_SERVE) × (get_or own.old place_at 0 ≢ DRAINING_TO_ADD) }
+    requires not_draining { (get_or own.old place_at 0 ≢ DRAINING_TO_SERVE) × (get_or own.old place_at 0 ≢ DRAINING_TO_ADD) }
     ensures { Acts
         (memory n wait.old registrations.old tickets.old cells.old
         device.old rows.old accesses.old) own.old
@@ -123,7 +123,7 @@ fn drained(own: &mut [u64], k: u64, workers: u64)
 
 // Drains a queue into the ready list: the device's part of its worker is lent, then that of worker w.
 fn drain_step(n: Counts, device: &mut [u64], store: &mut [u64], w: usize) -> Counts
-    requires shares_size_in_bounds { (shares_size ≤ length store.old) × (w < most_workers)
+    requires room { (shares_size ≤ length store.old) × (w < most_workers)
         × ((get_or (share store.old w) place_at 0 ≡ DRAINING_TO_SERVE)
         ⊎ (get_or (share store.old w) place_at 0 ≡ DRAINING_TO_ADD)) }
     requires long { (m : Memory) × (c : Setup) × (s : State) × Long (with_device m n device.old)
@@ -158,7 +158,7 @@ pub fn pick(
     store: &mut [u64],
     w: usize,
 ) -> Counts
-    requires shares_size_in_bounds { shares_size ≤ length store.old }
+    requires room { shares_size ≤ length store.old }
     requires long { (c : Setup) × (s : State)
         × Long (memory n wait.old registrations.old tickets.old cells.old device.old rows.old accesses.old)
         × Holds c (memory n wait.old registrations.old tickets.old cells.old device.old rows.old accesses.old)

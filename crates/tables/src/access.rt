@@ -91,7 +91,7 @@ fn lay_accesses(accesses: &mut [u64], plan: &[u64], n: usize, task: usize, at: u
 
 // Lays a plan's accesses, so many.
 pub(crate) fn lay_plan_accesses(plan: &[u64], count: usize, accesses: &mut [u64], total: usize)
-    requires plan_len { (length plan.now ≡ keep.task_rows) × (length accesses.old ≡ layout.access_rows) }
+    requires lengths { (length plan.now ≡ keep.task_rows) × (length accesses.old ≡ layout.access_rows) }
     requires readable { Readable plan.now count }
     ensures { OfPlan plan.now count (λ text p. total ≡ Total p.tasks →
         LaidRows layout.access_row total (access_row_of p.tasks) accesses.old accesses.new) }

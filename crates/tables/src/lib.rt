@@ -24,7 +24,7 @@ pub fn lay_out(
     accesses: &mut [u64],
     labels: &mut [u64],
 )
-    requires plan_len { (length plan.now ≡ keep.task_rows) × (length tasks.old ≡ layout.task_rows)
+    requires lengths { (length plan.now ≡ keep.task_rows) × (length tasks.old ≡ layout.task_rows)
         × (length accesses.old ≡ layout.access_rows) × (length labels.old ≡ layout.label_rows) }
     requires readable { Readable plan.now count }
     ensures numbers { OfPlan plan.now count (λ text p.

@@ -23,7 +23,7 @@ fn mask_of(mask: u64, workers: u64) -> u64
 
 // Lays the masks of a plan's tasks, one behind the other.
 pub fn lay_masks(plan: &[u64], count: usize, workers: u64, masks: &mut [u64])
-    requires plan_len { (length plan.now ≡ keep.task_rows) × (layout.most_tasks ≤ length masks.old) × (workers ≤ layout.most_workers) }
+    requires lengths { (length plan.now ≡ keep.task_rows) × (layout.most_tasks ≤ length masks.old) × (workers ≤ layout.most_workers) }
     requires readable { Readable plan.now count }
     ensures { OfPlan plan.now count (λ text p. workers ≡ p.workers →
         LaidRows 1 count (mask_row_of p.workers p.tasks) masks.old masks.new) }

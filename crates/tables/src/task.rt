@@ -16,7 +16,7 @@ pub(crate) fn lay_plan_tasks(
     tasks: &mut [u64],
     labels: &mut [u64],
 ) -> usize
-    requires plan_len { (length plan.now ≡ keep.task_rows) × (length tasks.old ≡ layout.task_rows)
+    requires lengths { (length plan.now ≡ keep.task_rows) × (length tasks.old ≡ layout.task_rows)
         × (length labels.old ≡ layout.label_rows) }
     requires readable { Readable plan.now count }
     ensures { OfPlan plan.now count (λ text p.

@@ -1,6 +1,6 @@
 -- What all devices over the tasks share: a pick is an operation of the tasks or none, picks are taken until the tasks are finished,
 -- and every list of picks is a history of the tasks.
-use Prim.Native.Nat.{ℕ, suc, ◌+◌}
+use Prim.Native.Nat.{ℕ, suc}
 use Rattle.std.specs.Prelude.{Bool, ◌&&◌, eqb}
 use Rattle.std.proofs.Math.Bool.{true, false, not}
 use mathlib.Core.List.{List, [], ◌∷◌, ◌++◌}

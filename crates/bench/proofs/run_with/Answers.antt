@@ -8,8 +8,8 @@ use Rattle.bench.proofs.run_with.Goals as goal
 pub run_plan-answer-requires : goal.run_plan-answer-requires
 run_plan-answer-requires c =
     record {
-      shares_size_in_bounds = (omega (arith, c.clear.auto.store, c.requires.2), cleared_zeros c.args.store.now _ c.clear.ensures);
-      text_value = read_loaded _ _ _ _ c.read-read.ensures c.in-Accepted.is refl c.requires.1;
+      room = (omega (arith, c.clear.auto.store, c.requires.2), cleared_zeros c.args.store.now _ c.clear.ensures);
+      loaded = read_loaded _ _ _ _ c.read-read.ensures c.in-Accepted.is refl c.requires.1;
     }
 
 pub returns-in-Refused : goal.returns-in-Refused

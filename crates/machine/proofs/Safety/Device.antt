@@ -1,6 +1,6 @@
 -- What the device keeps: exactly the tasks that it was given, in its queues and its ready list; in
 -- the cells, exactly those that it holds out.
-use Rattle.std.specs.Prelude.{ℕ, ◌-◌, ◌<◌, ◌≡◌, refl, ◌⊎◌, ◌≢◌, eqb}
+use Rattle.std.specs.Prelude.{ℕ, ◌<◌, ◌≡◌, refl, ◌⊎◌, ◌≢◌, eqb}
 use Rattle.std.proofs.Common.{arith, ap, ◌∙◌, inl, inr, ⊎_elim, eq-eqb, ne_eqb}
 use Rattle.runs.specs.Update.{same}
 use Rattle.runs.specs.Sums.{sum_const, le_sum, two_sum, pos_sum}
@@ -8,8 +8,8 @@ use Rattle.runs.specs.Counts.{one_le, is, is_same, is_other, count, count_nil}
 use Rattle.lock.specs.History as LH
 use Rattle.tasks.specs.Tasks.{held, stage, is_held, given}
 use Rattle.tasks.proofs.Promise as Promise
-use Rattle.machine.specs.State.{Setup, Purpose, for_serving, for_adding, looking, draining, serving, State, start}
-use Rattle.machine.specs.Whereabouts.{lock_stand, boxed, in_cell, stored, boxes}
+use Rattle.machine.specs.State.{Setup, Purpose, for_serving, for_adding, looking, draining, State, start}
+use Rattle.machine.specs.Whereabouts.{lock_stand, boxed, in_cell}
 use Rattle.machine.proofs.Safety.Locked.{waits_at}
 use Rattle.machine.specs.Safety.Device.{Tasked, Device}
 

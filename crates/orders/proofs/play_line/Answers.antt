@@ -27,7 +27,7 @@ pub pick-n-requires : goal.pick-n-requires
 pick-n-requires c =
     let a = still_able c.loop-n.invariant c.requires in
     record {
-      shares_size_in_bounds = a.room;
+      room = a.room;
       long = (a.c, a.s, a.long, a.holds, able_fits a c.loop-n-test.true c.draw-drawn.result c.draw-drawn.ensures);
     }
 

@@ -21,16 +21,16 @@ summary_of-summary-requires c =
     let (_, d, _, sized, _, _, holds) = c.requires.sized in
     let masks = masks_are d device sized holds.device.masks in
     let count = holds.tasks.tasks in record {
-      shares_size_in_bounds = (
-        c.requires.shares_size_in_bounds.0,
+      room = (
+        c.requires.room.0,
         omega (arith, holds.device.workers, sized.workers),
         omega (arith, holds.device.slots, sized.ring),
-        omega (arith, holds.device.slots, sized.slots, c.requires.shares_size_in_bounds.1),
-        omega (arith, c.requires.shares_size_in_bounds.2),
-        omega (arith, c.requires.shares_size_in_bounds.3),
+        omega (arith, holds.device.slots, sized.slots, c.requires.room.1),
+        omega (arith, c.requires.room.2),
+        omega (arith, c.requires.room.3),
       );
-      most_tasks_in_bounds = (
-        omega (arith, c.requires.shares_size_in_bounds.4, from_long MASKS device),
+      masks = (
+        omega (arith, c.requires.room.4, from_long MASKS device),
         omega (arith, count, sized.tasks),
         λ i l. masks_fit d (from MASKS device) masks i (omega arith),
       );
@@ -40,27 +40,27 @@ pub has_room-requires : goal.has_room-requires
 has_room-requires c =
     let sum = c.summary_of-summary in
     let args = c.args in
-    let sizes = c.requires.shares_size_in_bounds in
+    let sizes = c.requires.room in
     let (m, d, s, sized, small, labels, holds) = c.requires.sized in
     let few = few_tasks args.n args.store.now args.wait.now args.tickets.now args.cells.now args.device.now
     sum.result (sum.ensures.numbers, sum.ensures.found) m d s args.rows.now args.text.now args.labels.now sized labels holds in
     let is = shown args.n args.store.now args.wait.now args.tickets.now args.cells.now args.device.now
     sum.result (sum.ensures.numbers, sum.ensures.found) m d s args.rows.now args.text.now args.labels.now sized labels holds in
     let long : layout.most_tasks ≤ length (from GIVERS args.device.now) = omega (arith, sizes.4, from_long GIVERS args.device.now) in
-    record { rows_len = (sizes.5, sizes.6, long, few); small = (d, s, small, is) }
+    record { lengths = (sizes.5, sizes.6, long, few); small = (d, s, small, is) }
 
 pub put_report-length-requires : goal.put_report-length-requires
 put_report-length-requires c =
     let sum = c.summary_of-summary in
     let args = c.args in
-    let sizes = c.requires.shares_size_in_bounds in
+    let sizes = c.requires.room in
     let (m, d, s, sized, small, labels, holds) = c.requires.sized in
     let few = few_tasks args.n args.store.now args.wait.now args.tickets.now args.cells.now args.device.now
     sum.result (sum.ensures.numbers, sum.ensures.found) m d s args.rows.now args.text.now args.labels.now sized labels holds in
     let is = shown args.n args.store.now args.wait.now args.tickets.now args.cells.now args.device.now
     sum.result (sum.ensures.numbers, sum.ensures.found) m d s args.rows.now args.text.now args.labels.now sized labels holds in
     let long : layout.most_tasks ≤ length (from GIVERS args.device.now) = omega (arith, sizes.4, from_long GIVERS args.device.now) in
-    record { tasks_len = (sizes.5, sizes.6, long, few); shown = (d, s, is) }
+    record { lengths = (sizes.5, sizes.6, long, few); shown = (d, s, is) }
 
 pub returns-then-has_room : goal.returns-then-has_room
 returns-then-has_room c m d s left sized small labels holds =

@@ -17,7 +17,7 @@ returns-then-size-ge-LONGEST c d s small shown =
 pub put_report-requires : goal.put_report-requires
 put_report-requires c =
     let (d, s, small, is) = c.requires.small in
-    record { tasks_len = c.requires.rows_len; shown = (d, s, is) }
+    record { lengths = c.requires.lengths; shown = (d, s, is) }
 
 pub returns : goal.returns
 returns c d s small shown =

@@ -11,16 +11,16 @@ use Rattle.play.proofs.run_in.Goals as goal
 
 pub set_up-begin-requires : goal.set_up-begin-requires
 set_up-begin-requires c =
-    let lengths = c.requires.wait_len in
-    let (p, e, says) = c.requires.text_value in record { device_len = (lengths.4, lengths.5, lengths.6, lengths.7); by_index = (_, p, e, says.tasks) }
+    let lengths = c.requires.lengths in
+    let (p, e, says) = c.requires.loaded in record { lengths = (lengths.4, lengths.5, lengths.6, lengths.7); loaded = (_, p, e, says.tasks) }
 
 pub play_orders-n-requires : goal.play_orders-n-requires
 play_orders-n-requires c =
-    let lengths = c.requires.wait_len in
-    let (p, e, says) = c.requires.text_value in
-    let made = c.set_up-begin.ensures _ p _ e says.tasks c.requires.shares_size_in_bounds.0 c.requires.shares_size_in_bounds.1 lengths.8 in
+    let lengths = c.requires.lengths in
+    let (p, e, says) = c.requires.loaded in
+    let made = c.set_up-begin.ensures _ p _ e says.tasks c.requires.room.0 c.requires.room.1 lengths.8 in
     record {
-      room = c.requires.shares_size_in_bounds.0;
+      room = c.requires.room.0;
       long = record {
         wait = c.set_up-begin.auto.wait ∙ lengths.0;
         registrations = c.set_up-begin.auto.registrations ∙ lengths.1;
@@ -42,12 +42,12 @@ play_orders-n-requires c =
 
 pub answer_of-requires : goal.answer_of-requires
 answer_of-requires c =
-    let lengths = c.requires.wait_len in
-    let (p, e, says) = c.requires.text_value in
-    let made = c.set_up-begin.ensures _ p _ e says.tasks c.requires.shares_size_in_bounds.0 c.requires.shares_size_in_bounds.1 lengths.8 in
+    let lengths = c.requires.lengths in
+    let (p, e, says) = c.requires.loaded in
+    let made = c.set_up-begin.ensures _ p _ e says.tasks c.requires.room.0 c.requires.room.1 lengths.8 in
     let held = c.play_orders-n.ensures.held _ p e says.count says.orders made.0 in record {
-      shares_size_in_bounds = (
-        omega (arith, c.play_orders-n.auto.store, c.requires.shares_size_in_bounds.0),
+      room = (
+        omega (arith, c.play_orders-n.auto.store, c.requires.room.0),
         c.play_orders-n.auto.wait ∙ c.set_up-begin.auto.wait ∙ lengths.0,
         c.play_orders-n.auto.tickets ∙ c.set_up-begin.auto.tickets ∙ lengths.2,
         c.play_orders-n.auto.cells ∙ c.set_up-begin.auto.cells ∙ lengths.3,
@@ -71,7 +71,7 @@ returns c =
     record {
       answer = λ p left e says.
           let limit = c.args.limit in
-          let made = c.set_up-begin.ensures _ p _ e says.tasks c.requires.shares_size_in_bounds.0 c.requires.shares_size_in_bounds.1 c.requires.wait_len.8 in
+          let made = c.set_up-begin.ensures _ p _ e says.tasks c.requires.room.0 c.requires.room.1 c.requires.lengths.8 in
           let held = c.play_orders-n.ensures.held _ p e says.count says.orders made.0 in
           let m = memory c.play_orders-n.result [] _ [] [] [] [] _ in
           c.answer_of.ensures m (setup_of p) (reached p limit) left (sized _ p e) (small _ p e limit) made.1 held;

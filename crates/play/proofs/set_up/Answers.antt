@@ -15,10 +15,10 @@ use Rattle.play.proofs.set_up.Goals as goal
 
 pub lay_masks-requires : goal.lay_masks-requires
 lay_masks-requires c =
-    let (text, p, e, says) = c.requires.by_index in record {
-      plan_len = (
+    let (text, p, e, says) = c.requires.loaded in record {
+      lengths = (
         says.size,
-        omega (arith, c.requires.device_len.0, from_long MASKS c.args.device.now),
+        omega (arith, c.requires.lengths.0, from_long MASKS c.args.device.now),
         omega (arith, says.workers, (accepted_well_formed text p e).workers_few),
       );
       readable = (text, p, e, says.count, says.tasks);
@@ -26,7 +26,7 @@ lay_masks-requires c =
 
 pub start-ends-requires : goal.start-ends-requires
 start-ends-requires c =
-    let (text, p, e, says) = c.requires.by_index in
+    let (text, p, e, says) = c.requires.loaded in
     omega (arith, c.slots_of-slots.ensures, ap slots_of says.form, (accepted_well_formed text p e).slots_few)
 
 pub shape_of-device : goal.shape_of-device
@@ -46,8 +46,8 @@ returns c text p store e says long zeros ungiven =
     let room = c.lay_masks.auto.masks ∙ from_long MASKS device in
     let tasks = (accepted_well_formed text p e).tasks_few in
     let back = c.lay_masks.new.masks in
-    let givers = still_ungiven device back c.requires.device_len.0 (length p.tasks) tasks ungiven in
-    let masks = laid_masks device back c.requires.device_len.0 p.workers p.tasks _ (omega (arith, room, c.requires.device_len.0, tasks))
+    let givers = still_ungiven device back c.requires.lengths.0 (length p.tasks) tasks ungiven in
+    let masks = laid_masks device back c.requires.lengths.0 p.workers p.tasks _ (omega (arith, room, c.requires.lengths.0, tasks))
     (rw says.count at masked) in (
       rw (c.fresh.ensures, says.workers, slots, capacity, says.count)
           (starts (setup_of p) few _ _ _ _ _ _ _ _ store long zeros givers masks (rw slots at started.lock) laid.0 laid.1),

@@ -7,7 +7,7 @@ use Rattle.play.proofs.summary_of.Goals as goal
 
 pub total_permitted-requires : goal.total_permitted-requires
 total_permitted-requires c =
-    let (room, few, low) = c.requires.most_tasks_in_bounds in
+    let (room, few, low) = c.requires.masks in
     (few, omega arith, low)
 
 pub returns : goal.returns

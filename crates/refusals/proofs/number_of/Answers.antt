@@ -2,7 +2,6 @@
 use mathlib.Core.Path.{◌≡◌, sym, ap}
 use Rattle.refusals.specs.declared.Refusal.{Refusal}
 use Rattle.refusals.specs.Number.{number}
-use Rattle.refusals.proofs.number_of.Goals as goal
 
 of : {refusal known : Refusal} → refusal ≡ known → number known ≡ number refusal
 of e = ap number (sym e)

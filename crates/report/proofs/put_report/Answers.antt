@@ -14,7 +14,7 @@ put_task-next-requires c =
     let less = c.loop-i-test.true in
     let (_, _, shown) = c.requires.shown in
     let short = (shown.labels turn.i (omega (arith, shown.count))).short in
-    (c.requires.tasks_len.0, c.requires.tasks_len.1, c.requires.tasks_len.2, omega arith, short, omega (arith, turn.invariant.2))
+    (c.requires.lengths.0, c.requires.lengths.1, c.requires.lengths.2, omega arith, short, omega (arith, turn.invariant.2))
 
 pub loop-i-preserved : goal.loop-i-preserved
 loop-i-preserved c =

@@ -24,91 +24,91 @@ pub slice_bounds-drain-end : goal.slice_bounds-drain-end
 slice_bounds-drain-end c =
     let (_, _, _, _, kept, able) = c.requires.long in
     let below : drains c.args.store.now c.args.w < most_workers =
-    drained_below kept able c.requires.shares_size_in_bounds.2 (drains_is c.args.store.now c.args.w) in
-    omega (arith, below, c.requires.shares_size_in_bounds)
+    drained_below kept able c.requires.room.2 (drains_is c.args.store.now c.args.w) in
+    omega (arith, below, c.requires.room)
 
 pub overflow_mul-from : goal.overflow_mul-from
 overflow_mul-from c =
     let (_, _, _, _, kept, able) = c.requires.long in
     let below : drains c.args.store.now c.args.w < most_workers =
-    drained_below kept able c.requires.shares_size_in_bounds.2 (drains_is c.args.store.now c.args.w) in
-    omega (arith, below, c.requires.shares_size_in_bounds)
+    drained_below kept able c.requires.room.2 (drains_is c.args.store.now c.args.w) in
+    omega (arith, below, c.requires.room)
 
 pub overflow_mul-to : goal.overflow_mul-to
 overflow_mul-to c =
     let (_, _, _, _, kept, able) = c.requires.long in
     let below : drains c.args.store.now c.args.w < most_workers =
-    drained_below kept able c.requires.shares_size_in_bounds.2 (drains_is c.args.store.now c.args.w) in
-    omega (arith, below, c.requires.shares_size_in_bounds)
+    drained_below kept able c.requires.room.2 (drains_is c.args.store.now c.args.w) in
+    omega (arith, below, c.requires.room)
 
 pub overflow_add-to : goal.overflow_add-to
 overflow_add-to c =
     let (_, _, _, _, kept, able) = c.requires.long in
     let below : drains c.args.store.now c.args.w < most_workers =
-    drained_below kept able c.requires.shares_size_in_bounds.2 (drains_is c.args.store.now c.args.w) in
-    omega (arith, below, c.requires.shares_size_in_bounds)
+    drained_below kept able c.requires.room.2 (drains_is c.args.store.now c.args.w) in
+    omega (arith, below, c.requires.room)
 
 pub offset_bounds-store-from : goal.offset_bounds-store-from
 offset_bounds-store-from c =
     let (_, _, _, _, kept, able) = c.requires.long in
     let below : drains c.args.store.now c.args.w < most_workers =
-    drained_below kept able c.requires.shares_size_in_bounds.2 (drains_is c.args.store.now c.args.w) in
-    omega (arith, below, c.requires.shares_size_in_bounds)
+    drained_below kept able c.requires.room.2 (drains_is c.args.store.now c.args.w) in
+    omega (arith, below, c.requires.room)
 
 pub drain-requires : goal.drain-requires
 drain-requires c =
     let (_, _, _, _, kept, able) = c.requires.long in
     let below : drains c.args.store.now c.args.w < most_workers =
-    drained_below kept able c.requires.shares_size_in_bounds.2 (drains_is c.args.store.now c.args.w) in
+    drained_below kept able c.requires.room.2 (drains_is c.args.store.now c.args.w) in
     let (m, setup, state, long, holds, fit) = c.requires.long in
     let store = c.args.store.now in
     let k = drains c.args.store.now c.args.w in
-    let lent = station_lent store k below c.requires.shares_size_in_bounds.0 in (
-      ap length lent ∙ station_long (share store k) (share_length store k below c.requires.shares_size_in_bounds.0),
+    let lent = station_lent store k below c.requires.room.0 in (
+      ap length lent ∙ station_long (share store k) (share_length store k below c.requires.room.0),
       omega (arith, long.device),
       holds.device.ready_at_lem,
-      rw lent (drained_room holds fit c.requires.shares_size_in_bounds.2 (drains_is c.args.store.now c.args.w)),
-      rw lent (drained_few holds fit c.requires.shares_size_in_bounds.2 (drains_is c.args.store.now c.args.w)),
+      rw lent (drained_room holds fit c.requires.room.2 (drains_is c.args.store.now c.args.w)),
+      rw lent (drained_few holds fit c.requires.room.2 (drains_is c.args.store.now c.args.w)),
     )
 
 pub drained-requires : goal.drained-requires
 drained-requires c =
     let (_, _, _, _, kept, able) = c.requires.long in
     let below : drains c.args.store.now c.args.w < most_workers =
-    drained_below kept able c.requires.shares_size_in_bounds.2 (drains_is c.args.store.now c.args.w) in
+    drained_below kept able c.requires.room.2 (drains_is c.args.store.now c.args.w) in
     let (m, setup, state, long, holds, fit) = c.requires.long in
     let store = c.args.store.now in
     let w = c.args.w in
     let k = drains c.args.store.now c.args.w in
     let one = c.drain.new.own in
-    let emptied = rw (station_lent store k below c.requires.shares_size_in_bounds.0) at c.drain.ensures.station in
-    let stations = emptied_stations holds fit c.requires.shares_size_in_bounds.2 (drains_is c.args.store.now c.args.w) emptied in
+    let emptied = rw (station_lent store k below c.requires.room.0) at c.drain.ensures.station in
+    let stations = emptied_stations holds fit c.requires.room.2 (drains_is c.args.store.now c.args.w) emptied in
     let lent =
-    second_lent store k w below c.requires.shares_size_in_bounds.1 c.requires.shares_size_in_bounds.0 one c.drain.auto.own ∙ ap (λ (f : ℕ → List ℕ). f w) stations in
-    (rw lent (emptied_long holds fit c.requires.shares_size_in_bounds.2 (drains_is c.args.store.now c.args.w) emptied), drained_known holds fit c.requires.shares_size_in_bounds.2 (drains_is c.args.store.now c.args.w))
+    second_lent store k w below c.requires.room.1 c.requires.room.0 one c.drain.auto.own ∙ ap (λ (f : ℕ → List ℕ). f w) stations in
+    (rw lent (emptied_long holds fit c.requires.room.2 (drains_is c.args.store.now c.args.w) emptied), drained_known holds fit c.requires.room.2 (drains_is c.args.store.now c.args.w))
 
 pub returns : goal.returns
 returns c =
     let (_, _, _, _, kept, able) = c.requires.long in
     let below : drains c.args.store.now c.args.w < most_workers =
-    drained_below kept able c.requires.shares_size_in_bounds.2 (drains_is c.args.store.now c.args.w) in
+    drained_below kept able c.requires.room.2 (drains_is c.args.store.now c.args.w) in
     let store = c.args.store.now in
     let w = c.args.w in
     let k = drains c.args.store.now c.args.w in
     let one = c.drain.new.own in
     let two = c.drained.new.own in
-    let long = c.requires.shares_size_in_bounds.0 in
-    let few = c.requires.shares_size_in_bounds.1 in
+    let long = c.requires.room.0 in
+    let few = c.requires.room.1 in
     let lent = station_lent store k below long in
     let emptied = rw lent at c.drain.ensures.station in
     let slot =
     ap (λ (own : List ℕ). get_or own slot_at 0) (rw lent at c.drain.ensures.numbers.1)
     ∙ get_or-set_other (station (share store k)) queued_at slot_at 0 0 (λ e. omega arith) in record {
       held = λ m setup state holds fit.
-          let stations = emptied_stations holds fit c.requires.shares_size_in_bounds.2 (drains_is c.args.store.now c.args.w) emptied in
+          let stations = emptied_stations holds fit c.requires.room.2 (drains_is c.args.store.now c.args.w) emptied in
           let lent2 = second_lent store k w below few long one c.drain.auto.own ∙ ap (λ (f : ℕ → List ℕ). f w) stations in
           rw (both_shares store k w below few long one c.drain.auto.own two c.drained.auto.own)
-          (drain_acts holds fit c.requires.shares_size_in_bounds.2 (drains_is c.args.store.now c.args.w) emptied two c.drain.new.ready c.drain.result
+          (drain_acts holds fit c.requires.room.2 (drains_is c.args.store.now c.args.w) emptied two c.drain.new.ready c.drain.result
           (rw lent at c.drain.ensures.ready)
           (drained_behind _ _ _ _ _ c.drain.ensures.numbers.2)
           slot

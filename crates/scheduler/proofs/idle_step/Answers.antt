@@ -1,13 +1,9 @@
 -- `idle_step` meets its contract.
-use Prim.Native.Nat.{ℕ}
 use native.Mathlib.Omega.{arith}
-use mathlib.Core.Path.{◌≡◌, sym, ◌∙◌}
-use mathlib.Core.Logic.{inl, inr, ⊎_elim}
-use mathlib.Core.Bool.{false}
-use lib.Dec.{ltb}
-use Rattle.steps.specs.Memory.{Memory, with_tasks}
+use mathlib.Core.Path.{sym, ◌∙◌}
+use mathlib.Core.Logic.{inl, inr}
+use Rattle.steps.specs.Memory.{with_tasks}
 use Rattle.steps.proofs.Acting.{own_long}
-use borrow.Author.Tests.{ltb-true, ltb-false}
 use Rattle.scheduler.proofs.idle_step.Goals as goal
 use Rattle.scheduler.proofs.idle_step.Goals.{then-own-gt-FREE-via-then-own-gt-FREE, then-own-gt-FREE-via-else-own-gt-FREE+then-own-gt0}
 use Rattle.scheduler.proofs.idle_step.Goals.{then-w-eq0+else-is_creating, else-w-eq0}
@@ -84,8 +80,8 @@ returns-then-is_creating c =
 pub ticket_step-requires : goal.ticket_step-requires
 ticket_step-requires c =
     record {
-      place_at_value = ((with_tasks c.requires.0.0 c.args.n c.args.rows.now c.args.accesses.now, c.requires.0.1), c.requires.1);
-      stand_value = (
+      place = ((with_tasks c.requires.0.0 c.args.n c.args.rows.now c.args.accesses.now, c.requires.0.1), c.requires.1);
+      nothing_due = (
         omega (arith, c.if-own-gt-FREE.false),
         omega (arith, c.if-own-gt0.false),
         omega (arith, c.if-own-gt0-2.false),

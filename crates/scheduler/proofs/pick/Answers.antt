@@ -33,7 +33,7 @@ step_own-requires c =
     let (setup, state, long, holds, fit) = c.requires.long in
     let store = c.args.store.now in
     let w = c.args.w in
-    let lent = share_lent store w (workers_few fit) c.requires.shares_size_in_bounds in record { able = counted_able c.args.store.now long holds fit (sym lent); place_at_nonzero = rw (lent, share_at store w place_at (omega arith)) (drains_not _ c.if-place-lt-DRAINING_TO_SERVE.true) }
+    let lent = share_lent store w (workers_few fit) c.requires.room in record { able = counted_able c.args.store.now long holds fit (sym lent); not_draining = rw (lent, share_at store w place_at (omega arith)) (drains_not _ c.if-place-lt-DRAINING_TO_SERVE.true) }
 
 pub returns-then-place-lt-DRAINING_TO_SERVE : goal.returns-then-place-lt-DRAINING_TO_SERVE
 returns-then-place-lt-DRAINING_TO_SERVE c =
@@ -42,13 +42,13 @@ returns-then-place-lt-DRAINING_TO_SERVE c =
     let store = c.args.store.now in
     let w = c.args.w in
     let few = workers_few fit in
-    let lent = share_lent store w few c.requires.shares_size_in_bounds in
+    let lent = share_lent store w few c.requires.room in
     let back = d.auto.own in
     let own = d.new.own in record {
       held = λ k u h f.
-          rw (returned_shares store w few c.requires.shares_size_in_bounds own back)
+          rw (returned_shares store w few c.requires.room own back)
           (acted_holds k u w (d.ensures k (picked u) (share store) (sym lent) (counted_long long) (counted_holds h) f));
-      later = returned_later store w few c.requires.shares_size_in_bounds own back;
+      later = returned_later store w few c.requires.room own back;
     }
 
 pub drain_step-requires : goal.drain_step-requires
@@ -56,7 +56,7 @@ drain_step-requires c =
     let x = c.args in
     let (setup, state, long, holds, fit) = c.requires.long in
     let place = share_at x.store.now x.w place_at (omega arith) in
-    let few = rw place at (own_place (counted_able c.args.store.now long holds fit refl)) in record { shares_size_in_bounds = (c.requires.shares_size_in_bounds, workers_few fit, rw place (drains_there _ c.if-place-lt-DRAINING_TO_SERVE.false few)); long = ((memory x.n x.wait.now x.registrations.now x.tickets.now x.cells.now x.device.now x.rows.now x.accesses.now), setup, picked state, counted_long long, counted_holds holds, fit) }
+    let few = rw place at (own_place (counted_able c.args.store.now long holds fit refl)) in record { room = (c.requires.room, workers_few fit, rw place (drains_there _ c.if-place-lt-DRAINING_TO_SERVE.false few)); long = ((memory x.n x.wait.now x.registrations.now x.tickets.now x.cells.now x.device.now x.rows.now x.accesses.now), setup, picked state, counted_long long, counted_holds holds, fit) }
 
 pub returns : goal.returns
 returns c =

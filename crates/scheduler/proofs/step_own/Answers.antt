@@ -2,7 +2,6 @@
 use native.Mathlib.Omega.{arith}
 use lib.ListN.{get_or}
 use Rattle.steps.specs.Layout.{place_at}
-use Rattle.steps.specs.Memory.{Memory}
 use Rattle.steps.proofs.Acting.{own_long}
 use Rattle.scheduler.specs.Lent.{memory}
 use Rattle.scheduler.proofs.Picking.{own_place, leaves_at}
@@ -49,8 +48,8 @@ leave_step-requires c =
       (memory x.n x.wait.now x.registrations.now x.tickets.now x.cells.now x.device.now x.rows.now x.accesses.now, c.requires.able),
       leaves_at (get_or own place_at 0) (own_place c.requires.able)
           (λ e. omega arith) (λ e. omega arith) (λ e. omega arith) (λ e. omega arith)
-          c.requires.place_at_nonzero.0
-          c.requires.place_at_nonzero.1
+          c.requires.not_draining.0
+          c.requires.not_draining.1
           (λ e. omega arith) (λ e. omega arith),
     )
 

@@ -19,7 +19,7 @@ use Rattle.tasks.specs.History.{can_link, can_close, can_deliver, can_tell, can_
 use Rattle.tasks.specs.History.{can_end}
 use Rattle.tasks.proofs.Inside.Keeps.{plan_at, in_hand_lem, fresh, counts_waits, keeps}
 use Rattle.tasks.proofs.Inside.Lowered.{lowered_creation, lowered_cases}
-use Rattle.tasks.specs.Accesses.{total_cost, task_at, task_of, total}
+use Rattle.tasks.specs.Accesses.{task_at, task_of, total}
 use Rattle.tasks.specs.Flags.{Flags, sent, with, RightsOnly}
 use Rattle.tasks.proofs.Inside.LinkLaws.{Links}
 use Rattle.tasks.proofs.Inside.Links.{first_zero}

@@ -4,13 +4,12 @@ use native.Mathlib.Omega.{arith}
 use Rattle.tasks.specs.Tasks.{opening, with_creation}
 use Rattle.duties.proofs.Held.{own_stored}
 use Rattle.duties.proofs.Creating.{to_link, row_end, task_below, task_few, closes_holds}
-use Rattle.duties.proofs.deliver.lower.Reads as lower-reads
 use Rattle.duties.proofs.create.close.Goals as goal
 
 pub lower-requires : goal.lower-requires
 lower-requires c =
     let ((m, w, a), none, one, last) = c.requires in
-    let own = own_stored a in record { rows_len = (a.long.rows, task_few a (omega (arith, one)), own.long, own.adds_at_lem); adds_count_bound = λ some least. omega (arith, none) }
+    let own = own_stored a in record { lengths = (a.long.rows, task_few a (omega (arith, one)), own.long, own.adds_at_lem); adds = λ some least. omega (arith, none) }
 
 pub overflow_add-r : goal.overflow_add-r
 overflow_add-r c =

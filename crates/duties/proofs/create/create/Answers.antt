@@ -1,10 +1,6 @@
 -- `create::create` meets its contract.
-use Prim.Native.Nat.{◌<◌, ◌≤◌}
 use native.Mathlib.Omega.{arith}
-use mathlib.Core.Path.{◌≡◌}
-use lib.ListN.{length}
-use Rattle.memory.specs.Layout as layout
-use Rattle.memory.specs.Memory.{memory, end_of}
+use Rattle.memory.specs.Memory.{memory}
 use Rattle.duties.proofs.Creating.{to_create_lem, one_opened, task_few, end_few}
 use Rattle.duties.proofs.create.create.Goals as goal
 

@@ -1,16 +1,10 @@
 -- `create::link` meets its contract.
-use Prim.Native.Nat.{ℕ, ◌<◌}
 use native.Mathlib.Omega.{arith}
-use mathlib.Core.Path.{◌≡◌, sym, ◌∙◌}
-use mathlib.Core.Logic.{⊎_elim}
 use mathlib.Core.List.{[], ◌∷◌, ◌++◌}
-use lib.ListN.{length, get_or}
 use Rattle.tasks.specs.History.{link_message}
-use Rattle.memory.specs.Layout as layout
 use Rattle.memory.specs.Shares.{Stored}
-use Rattle.memory.specs.Memory.{TaskMemory, memory, Able, end_of}
 use Rattle.duties.proofs.Held.{own_stored}
-use Rattle.duties.proofs.Creating.{to_link, first_letter, later_letter, Linking, before_end, access_below, linking_facts, links_holds}
+use Rattle.duties.proofs.Creating.{to_link, first_letter, later_letter, before_end, access_below, linking_facts, links_holds}
 use Rattle.duties.proofs.create.link.Goals as goal
 use Rattle.duties.proofs.create.link.Goals.{then-prev-eq0, else-prev-eq0}
 

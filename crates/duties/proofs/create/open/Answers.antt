@@ -1,10 +1,7 @@
 -- `create::open` meets its contract.
-use Prim.Native.Nat.{◌≤◌, ◌<◌}
+use Prim.Native.Nat.{◌<◌}
 use native.Mathlib.Omega.{arith}
-use mathlib.Core.Path.{◌≡◌}
 use lib.ListN.{length, length-set}
-use Rattle.memory.specs.Layout as layout
-use Rattle.memory.specs.Rows.{task_number}
 use Rattle.duties.proofs.Creating.{to_open, opens_holds}
 use Rattle.duties.proofs.create.open.Goals as goal
 

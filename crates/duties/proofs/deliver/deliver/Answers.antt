@@ -62,7 +62,7 @@ pub lower-requires : goal.lower-requires
 lower-requires c =
     let fits = lower_fits c.requires.0.1 c.requires.1 c.requires.2 c.take_mail-mail.ensures.meaning c.set_flags-change.ensures.rows
     c.set_flags-change.ensures.change c.pass_on-posted.ensures c.give_notice-noticed.ensures in
-    record { rows_len = fits.0; adds_count_bound = fits.1 }
+    record { lengths = fits.0; adds = fits.1 }
 
 pub overflow_sub-r : goal.overflow_sub-r
 overflow_sub-r c =

@@ -2,7 +2,6 @@
 use mathlib.Core.Path.{refl, sym, ◌∙◌}
 use Rattle.tasks.specs.Tasks.{free}
 use Rattle.duties.proofs.Delivering.{notice_none, notice_some}
-use Rattle.memory.proofs.share.stand.Reads as stand-reads
 use Rattle.duties.proofs.deliver.give_notice.Goals as goal
 
 pub returns-then-sender-eq0 : goal.returns-then-sender-eq0

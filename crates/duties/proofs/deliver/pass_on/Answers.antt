@@ -3,7 +3,6 @@ use native.Mathlib.Omega.{arith}
 use mathlib.Core.Path.{refl}
 use mathlib.Core.List.{append-nil}
 use Rattle.duties.proofs.Delivering.{passed_none, passed_one}
-use Rattle.memory.proofs.share.post.Reads as post-reads
 use Rattle.duties.proofs.deliver.pass_on.Goals as goal
 
 pub returns-then-passes-eq0 : goal.returns-then-passes-eq0

@@ -6,8 +6,6 @@ use Rattle.memory.specs.Layout as layout
 use Rattle.memory.specs.Rows.{access_number}
 use Rattle.tasks.specs.Flags.{flag_number, with}
 use Rattle.duties.proofs.Flagging.{passes_more}
-use Rattle.duties.proofs.deliver.minus.Reads as minus-reads
-use Rattle.duties.proofs.flags.passing.Reads as passing-reads
 use Rattle.duties.proofs.deliver.set_flags.Goals as goal
 
 pub returns : goal.returns

@@ -4,7 +4,6 @@ use mathlib.Core.Path.{refl}
 use Rattle.tasks.specs.Tasks.{free}
 use Rattle.duties.proofs.Held.{own_stored}
 use Rattle.duties.proofs.Telling.{told, noticing}
-use Rattle.memory.proofs.share.stand.Reads as stand-reads
 use Rattle.duties.proofs.deliver.tell.Goals as goal
 
 pub bounds-own-1 : goal.bounds-own-1

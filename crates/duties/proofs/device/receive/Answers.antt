@@ -9,7 +9,6 @@ use Rattle.memory.specs.Shares.{Stored}
 use Rattle.memory.specs.Memory.{memory, Able}
 use Rattle.duties.proofs.Held.{own_stored}
 use Rattle.duties.proofs.Working.{received_cost, cost_at, take_within, receive_within, taken, fetched}
-use Rattle.memory.proofs.share.stand.Reads as stand-reads
 use Rattle.duties.proofs.device.receive.Goals as goal
 
 pub bounds-rows-row-2 : goal.bounds-rows-row-2

@@ -7,9 +7,6 @@ use Rattle.memory.specs.Layout as layout
 use Rattle.memory.specs.Memory.{memory}
 use Rattle.duties.proofs.Held.{own_stored}
 use Rattle.duties.proofs.Given.{stand_few}
-use Rattle.duties.proofs.deliver.deliver.Reads as deliver-reads
-use Rattle.duties.proofs.deliver.tell.Reads as tell-reads
-use Rattle.duties.proofs.work.work.Reads as work-reads
 use Rattle.duties.proofs.mind.mind.Goals as goal
 
 pub bounds-own-0 : goal.bounds-own-0

@@ -5,8 +5,7 @@ use lib.ListN.{get_or, length-set}
 use Rattle.tasks.specs.Tasks.{free}
 use Rattle.memory.specs.Layout as layout
 use Rattle.duties.proofs.Held.{own_stored}
-use Rattle.duties.proofs.Working.{at_work, ended_first, ended_count, ends_holds, Ending, ending}
-use Rattle.memory.proofs.share.stand.Reads as stand-reads
+use Rattle.duties.proofs.Working.{at_work, ended_first, ended_count, ends_holds, ending}
 use Rattle.duties.proofs.work.end.Goals as goal
 
 pub bounds-own-1 : goal.bounds-own-1
@@ -67,7 +66,7 @@ bounds-rows-row-4 c = let ((m, w, a), at, none) = c.requires in
 
 pub post_done-requires : goal.post_done-requires
 post_done-requires c = let ((m, w, a), at, none) = c.requires in
-    let f = (ending c.args.time a at) in record { by_index = f.stored; count_bound = (f.room, f.within) }
+    let f = (ending c.args.time a at) in record { stored = f.stored; has_room = (f.room, f.within) }
 
 pub stand-requires : goal.stand-requires
 stand-requires c = let ((m, w, a), at, none) = c.requires in

@@ -1,4 +1,4 @@
-use Prim.Native.Nat.{◌+◌, ◌-◌}
+use Prim.Native.Nat.{◌+◌}
 use mathlib.Core.Path.{◌≡◌, refl, sym, ◌∙◌}
 use mathlib.Core.List.{◌++◌, append-nil}
 use native.Mathlib.Omega.{arith}
@@ -17,13 +17,13 @@ loop-k-init c =
 pub post-requires : goal.post-requires
 post-requires c =
     let l = c.loop-k in
-    let (p, mail, adds, h) = c.requires.by_index in
+    let (p, mail, adds, h) = c.requires.stored in
     let now = l.invariant.1 p mail adds h in (
       now.long,
       now.mail_at_lem,
       omega (
         arith,
-        c.requires.count_bound,
+        c.requires.has_room,
         mail_count_lem now,
         mail_count_lem h,
         length-append mail
@@ -44,7 +44,7 @@ loop-k-preserved c =
 
 pub shape_of-own : goal.shape_of-own
 shape_of-own c =
-    let (p, mail, adds, h) = c.requires.by_index in
+    let (p, mail, adds, h) = c.requires.stored in
     (c.loop-k.invariant.1 p mail adds h).long ∙ sym h.long
 
 pub returns : goal.returns

@@ -1,5 +1,5 @@
 -- `work::post_done` meets its contract.
-use Prim.Native.Nat.{ℕ, ◌+◌, ◌-◌, ◌≤◌}
+use Prim.Native.Nat.{ℕ, ◌-◌, ◌≤◌}
 use mathlib.Core.List.{List, ◌++◌}
 use Rattle.tasks.specs.Tasks.{Message, Stand}
 use Rattle.memory.specs.Shares.{Stored}

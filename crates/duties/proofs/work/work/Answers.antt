@@ -2,7 +2,7 @@
 use Prim.Native.Nat.{suc, ◌-◌}
 use native.Mathlib.Omega.{arith}
 use mathlib.Core.Path.{◌≡◌, ap, ◌∙◌}
-use lib.ListN.{length, get_or}
+use lib.ListN.{get_or}
 use Rattle.tasks.specs.Tasks.{working}
 use Rattle.memory.specs.Layout as layout
 use Rattle.memory.specs.StoringLaws.{stored_worked}

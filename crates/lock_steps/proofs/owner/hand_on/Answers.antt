@@ -3,14 +3,11 @@ use Prim.Native.Nat.{ℕ}
 use native.Mathlib.Omega.{arith}
 use mathlib.Core.Path.{◌≡◌, refl, sym, ap, ◌∙◌}
 use mathlib.Core.List.{List}
-use mathlib.Core.Option.{none}
-use Rattle.lock.specs.Lock as L
-use Rattle.lock.specs.Answers.{seen, waiter}
+use Rattle.lock.specs.Answers.{seen}
 use Rattle.lock.specs.declared.Ends.{Ends}
 use Rattle.lock.specs.declared.HandedOver.{HandedOver}
 use Rattle.lock.specs.declared.Worker.{Worker}
-use Rattle.lock.specs.declared.Front.{Front}
-use Rattle.lock.specs.declared.Front.TheVariants.{Nobody, Waiter}
+use Rattle.lock.specs.declared.Front.TheVariants.{Waiter}
 use Rattle.lock.specs.declared.Looked.{Looked}
 use Rattle.machine.specs.Event.{found}
 use Rattle.steps.proofs.Acting.{slots_some, slots_few}

@@ -1,15 +1,8 @@
 -- `owner::serve_step` meets its contract. The places on the way back: `start` is the beginning, `served` the search for a task that the
 -- waiter may run, and `own` the search for one that the owner may run.
-use Prim.Native.Nat.{ℕ, ◌<◌}
 use native.Mathlib.Omega.{arith}
-use mathlib.Core.Path.{◌≡◌}
-use mathlib.Core.Logic.{⊎_elim}
-use mathlib.Core.Option.{some}
-use Rattle.lock.specs.Lock as L
-use Rattle.steps.specs.Memory.{Memory, Able}
 use Rattle.steps.proofs.Acting.{own_long, slots_some, slots_few}
 use Rattle.steps.proofs.Choosing.{ready_few, ready_tasks, task_known}
-use Rattle.lock_steps.specs.Lent.{with_served}
 use Rattle.lock_steps.proofs.FromLock.{fronts}
 use Rattle.lock_steps.proofs.Stepping.{acting, workers_few, tasks_few}
 use Rattle.lock_steps.proofs.Owning.{serving_few, waiter_few, Takes, takes_alone, takes_served, takes_stopped, empty_acts, none_acts}

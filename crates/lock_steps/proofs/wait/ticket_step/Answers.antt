@@ -7,17 +7,17 @@ use Rattle.lock_steps.proofs.wait.ticket_step.Goals as goal
 
 pub take_ticket-taken-requires : goal.take_ticket-taken-requires
 take_ticket-taken-requires c =
-    head_fits c.requires.place_at_value.0.1
+    head_fits c.requires.place.0.1
 
 pub go_to-requires : goal.go_to-requires
 go_to-requires c =
-    own_long c.requires.place_at_value.0.1
+    own_long c.requires.place.0.1
 
 pub returns : goal.returns
 returns c m =
-    let (stand, mails, adds, last) = c.requires.stand_value in
+    let (stand, mails, adds, last) = c.requires.nothing_due in
     let taken = c.take_ticket-taken in
     let gone = c.go_to in
     acting gone.new.own (λ a.
     rw c.with_ends.ensures
-    (ticket_acts a c.requires.place_at_value.1 stand mails adds last taken.result (taken.ensures.ends, taken.ensures.lock) gone.new.own gone.ensures))
+    (ticket_acts a c.requires.place.1 stand mails adds last taken.result (taken.ensures.ends, taken.ensures.lock) gone.new.own gone.ensures))

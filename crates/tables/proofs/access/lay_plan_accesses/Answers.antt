@@ -6,11 +6,11 @@ use Rattle.tables.proofs.access.lay_plan_accesses.Goals as goal
 
 pub loop-i-init : goal.loop-i-init
 loop-i-init c =
-    (omega arith, omega arith, c.requires.plan_len.1, λ text p e size has q. accesses_begin p c.args.accesses.now)
+    (omega arith, omega arith, c.requires.lengths.1, λ text p e size has q. accesses_begin p c.args.accesses.now)
 
 pub row_at-row-requires : goal.row_at-row-requires
 row_at-row-requires c =
-    (c.requires.plan_len.0, task_low c.args.plan.now c.args.count c.requires.readable c.loop-i.i c.loop-i-test.true)
+    (c.requires.lengths.0, task_low c.args.plan.now c.args.count c.requires.readable c.loop-i.i c.loop-i-test.true)
 
 pub lay_accesses-requires : goal.lay_accesses-requires
 lay_accesses-requires c =
@@ -18,7 +18,7 @@ lay_accesses-requires c =
     let row = c.row_at-row in
     let low = task_low c.args.plan.now c.args.count c.requires.readable x.i c.loop-i-test.true in
     let few = row_few c.args.plan.now c.args.count c.requires.readable x.i c.loop-i-test.true row.result row.ensures in
-    (x.invariant.2, c.requires.plan_len.0, few, low, omega (arith, low, few, x.invariant.1))
+    (x.invariant.2, c.requires.lengths.0, few, low, omega (arith, low, few, x.invariant.1))
 
 pub overflow_add-at : goal.overflow_add-at
 overflow_add-at c =
@@ -54,7 +54,7 @@ loop-i-preserved c =
 
 pub shape_of-accesses : goal.shape_of-accesses
 shape_of-accesses c =
-    c.loop-i.invariant.2 ∙ sym c.requires.plan_len.1
+    c.loop-i.invariant.2 ∙ sym c.requires.lengths.1
 
 pub returns : goal.returns
 returns c =

@@ -14,11 +14,11 @@ loop-i-init c =
 
 pub row_at-row-requires : goal.row_at-row-requires
 row_at-row-requires c =
-    (c.requires.plan_len.0, task_low c.args.plan.now c.args.count c.requires.readable c.loop-i.i c.loop-i-test.true)
+    (c.requires.lengths.0, task_low c.args.plan.now c.args.count c.requires.readable c.loop-i.i c.loop-i-test.true)
 
 pub mask_of-requires : goal.mask_of-requires
 mask_of-requires c =
-    c.requires.plan_len.2
+    c.requires.lengths.2
 
 pub offset_bounds-masks-i : goal.offset_bounds-masks-i
 offset_bounds-masks-i c =
@@ -27,7 +27,7 @@ offset_bounds-masks-i c =
 pub bounds-masks-i : goal.bounds-masks-i
 bounds-masks-i c =
     let low = task_low c.args.plan.now c.args.count c.requires.readable c.loop-i.i c.loop-i-test.true in
-    omega (arith, low, c.requires.plan_len.1, c.loop-i.invariant.1)
+    omega (arith, low, c.requires.lengths.1, c.loop-i.invariant.1)
 
 pub overflow_add-i : goal.overflow_add-i
 overflow_add-i c =
@@ -47,7 +47,7 @@ loop-i-preserved c =
       length-set x.masks x.i c.mask_of.result ∙ x.invariant.1,
       λ text p e size has same.
           mask_laid text p e c.args.count size c.args.plan.now has c.args.masks.now x.masks x.i c.args.workers
-          c.mask_of.result row.result taken (omega (arith, low, c.requires.plan_len.1, x.invariant.1)) row.ensures same c.mask_of.ensures
+          c.mask_of.result row.result taken (omega (arith, low, c.requires.lengths.1, x.invariant.1)) row.ensures same c.mask_of.ensures
           (x.invariant.2 text p e size has same),
     )
 

@@ -8,14 +8,14 @@ pub loop-i-init : goal.loop-i-init
 loop-i-init c = (
   omega arith,
   omega arith,
-  c.requires.plan_len.1,
-  c.requires.plan_len.2,
+  c.requires.lengths.1,
+  c.requires.lengths.2,
   λ text p e size has. tasks_begin p c.args.plan.now c.args.tasks.now c.args.labels.now,
 )
 
 pub row_at-row-requires : goal.row_at-row-requires
 row_at-row-requires c =
-    (c.requires.plan_len.0, task_low c.args.plan.now c.args.count c.requires.readable c.loop-i.i c.loop-i-test.true)
+    (c.requires.lengths.0, task_low c.args.plan.now c.args.count c.requires.readable c.loop-i.i c.loop-i-test.true)
 
 pub lay_task-requires : goal.lay_task-requires
 lay_task-requires c =
@@ -65,11 +65,11 @@ loop-i-preserved c =
 
 pub shape_of-tasks : goal.shape_of-tasks
 shape_of-tasks c =
-    c.loop-i.invariant.2 ∙ sym c.requires.plan_len.1
+    c.loop-i.invariant.2 ∙ sym c.requires.lengths.1
 
 pub shape_of-labels : goal.shape_of-labels
 shape_of-labels c =
-    c.loop-i.invariant.3 ∙ sym c.requires.plan_len.2
+    c.loop-i.invariant.3 ∙ sym c.requires.lengths.2
 
 pub returns : goal.returns
 returns c =

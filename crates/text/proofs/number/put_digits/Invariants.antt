@@ -1,7 +1,7 @@
 -- `text::number::put_digits` meets its contract: the last digits are written, and the others are those of what is left. The measure is how
 -- many are not written.
 -- Assumes nothing.
-use Prim.Native.Nat.{◌-◌, ◌≤◌}
+use Prim.Native.Nat.{◌≤◌}
 use mathlib.Core.Path.{◌≡◌}
 use lib.ListN.{length}
 use Rattle.text.proofs.Digits.{Lasts}

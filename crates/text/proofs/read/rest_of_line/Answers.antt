@@ -1,6 +1,4 @@
-use Prim.Native.Nat.{◌-◌}
 use mathlib.Core.Path.{sym, ◌∙◌}
-use mathlib.Core.Bool.{true}
 use Rattle.text.proofs.LineEnds.{reaches_none, reaches_on, reaches_feed, reaches_other, end_past, look_within}
 use Rattle.text.proofs.read.rest_of_line.Goals as goal
 
