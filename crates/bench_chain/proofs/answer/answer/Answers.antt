@@ -2,7 +2,7 @@
 use native.Mathlib.Omega.{arith}
 use Rattle.tools.proofs.Printing.{prints}
 use Rattle.chain.specs.Longest.{chain_of}
-use Rattle.chain.specs.Short.{result_short}
+use Rattle.chain.proofs.Short.{result_short}
 use Rattle.bench_chain.proofs.answer.answer.Goals as goal
 
 pub returns : goal.returns
