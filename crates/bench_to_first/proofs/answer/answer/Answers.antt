@@ -2,7 +2,7 @@
 use native.Mathlib.Omega.{arith}
 use Rattle.tools.proofs.Printing.{prints}
 use Rattle.convert.specs.Convert.{to_first}
-use Rattle.convert.specs.Moved.{first_short}
+use Rattle.convert.proofs.Moved.{first_short}
 use Rattle.bench_to_first.proofs.answer.answer.Goals as goal
 
 pub returns : goal.returns

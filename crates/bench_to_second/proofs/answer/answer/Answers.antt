@@ -2,7 +2,7 @@
 use native.Mathlib.Omega.{arith}
 use Rattle.tools.proofs.Printing.{prints}
 use Rattle.convert.specs.Convert.{to_second}
-use Rattle.convert.specs.Moved.{second_short}
+use Rattle.convert.proofs.Moved.{second_short}
 use Rattle.bench_to_second.proofs.answer.answer.Goals as goal
 
 pub returns : goal.returns
