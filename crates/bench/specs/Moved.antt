@@ -17,7 +17,7 @@ use Rattle.play.specs.Outcome.{written}
 use Rattle.tools.specs.Result.{result}
 use Rattle.convert.specs.Convert.{spelled_out, to_second, to_first}
 use Rattle.convert.specs.Reread.{with_form}
-use Rattle.convert.specs.Moved.{spelled_alike, second_plan, second_means, first_plan, first_means, first_had}
+use Rattle.convert.proofs.Moved.{spelled_alike, second_plan, second_means, first_plan, first_means, first_had}
 use Rattle.bench.specs.Answer.{text_size, store_size, cleared, played, run, printed_for, printed}
 use Rattle.bench.specs.Tested.{run_small, run_read}
 

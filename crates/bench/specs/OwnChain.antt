@@ -15,7 +15,7 @@ use Rattle.machine.specs.Step.{finished}
 use Rattle.report.specs.Report.{total_permitted}
 use Rattle.tools.specs.Result.{result, of_plan}
 use Rattle.chain.specs.Longest.{longest, chain_line, chain_of}
-use Rattle.chain.specs.Ordered.{longest_or_none}
+use Rattle.chain.proofs.Ordered.{longest_or_none}
 use Rattle.orders.specs.Reached.{setup_of, reached}
 use Rattle.orders.specs.AcceptedRuns.{own_chains, own_at_least}
 use Rattle.play.specs.declared.Answer.TheVariants.{Reports}

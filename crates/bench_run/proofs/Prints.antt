@@ -21,7 +21,7 @@ use Rattle.play.specs.declared.Answer.TheVariants.{Reports, Refuses}
 use Rattle.orders.specs.Reached.{reached}
 use Rattle.report.specs.Sizes.{longest}
 use Rattle.play.specs.Outcome.{Outcome, report_of, written}
-use Rattle.tools.specs.Printing.{front}
+use Rattle.tools.proofs.Printing.{front}
 use Rattle.bench.specs.Answer.{text_size, store_size, cleared, played, run, printed_for, printed}
 use Rattle.bench.specs.Tested.{run_long, run_read}
 use Rattle.play.specs.Short.{accepted_short}

@@ -3,3 +3,5 @@ mod Linking
 mod Conflicts
 mod Lines
 mod Telling
+pub mod Ordered
+pub mod Short

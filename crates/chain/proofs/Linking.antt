@@ -8,7 +8,7 @@ use Rattle.plan.specs.Plan.{Task}
 use Rattle.plan.specs.Chains.{no_task, task_at, Follow}
 use Rattle.kept.specs.declared.tasks.Row.{Row}
 use Rattle.kept.specs.Tasks.{row_at}
-use Rattle.chain.specs.Short.{follow_cheap}
+use Rattle.chain.proofs.Short.{follow_cheap}
 use Rattle.chain.specs.Links.{Kept, Found, Known, Rising}
 use Rattle.chain.proofs.Scan.{known_more, known_rising}
 

@@ -11,7 +11,7 @@ use Rattle.runs.specs.Update.{order}
 use Rattle.plan.specs.Plan.{Task}
 use Rattle.plan.specs.Chains.{task_at, conflict, Follow, Chain, chain_cost}
 use Rattle.chain.specs.Longest.{Before}
-use Rattle.chain.specs.Ordered.{longest_only, longest_none}
+use Rattle.chain.proofs.Ordered.{longest_only, longest_none}
 use Rattle.chain.specs.declared.link.Link.{Link}
 use Rattle.chain.specs.Links.{Leads, Found, KnownAt, Known, Starts, Rising}
 

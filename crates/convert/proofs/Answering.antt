@@ -20,7 +20,7 @@ use Rattle.tools.specs.declared.Answer.TheVariants.{Refuses}
 use Rattle.tools.specs.Result.{plan_text, Outcome, outcome, written}
 use Rattle.tools.specs.Written.{written_refused}
 use Rattle.convert.specs.Convert.{after_line, workers_fields, spelled_out, has_first_sizes, in_second, in_first, to_second, to_first}
-use Rattle.convert.specs.Reread.{own_line}
+use Rattle.convert.proofs.Reread.{own_line}
 
 module _ (text : List ℕ) (r : ReadPlan) (is : r ≡ outlined text (reading text)) where
   -- a plan that is refused

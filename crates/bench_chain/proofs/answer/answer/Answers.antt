@@ -1,8 +1,8 @@
 -- `bench_chain::answer::answer` meets its contract: no line has more than 409 bytes. Assumes nothing.
 use native.Mathlib.Omega.{arith}
-use Rattle.tools.specs.Printing.{prints}
+use Rattle.tools.proofs.Printing.{prints}
 use Rattle.chain.specs.Longest.{chain_of}
-use Rattle.chain.specs.Short.{result_short}
+use Rattle.chain.proofs.Short.{result_short}
 use Rattle.bench_chain.proofs.answer.answer.Goals as goal
 
 pub returns : goal.returns

@@ -4,7 +4,7 @@ use native.Mathlib.Omega.{arith}
 use Rattle.refusals.specs.Number.{number}
 use Rattle.refusals.specs.Line.{refusal_fields}
 use Rattle.reader.specs.declared.CheckedText.{CheckedText}
-use Rattle.tools.specs.Printing.{line_front}
+use Rattle.tools.proofs.Printing.{line_front}
 use Rattle.bench_check.specs.Checking.{accepted_fields}
 use Rattle.bench_check.proofs.Prints.{accepted_prints, refused_prints}
 use Rattle.bench_check.proofs.answer.answer.Goals as goal

@@ -1,8 +1,8 @@
 -- `bench_to_first::answer::answer` meets its contract: no result has more than 65,536 bytes. Assumes nothing.
 use native.Mathlib.Omega.{arith}
-use Rattle.tools.specs.Printing.{prints}
+use Rattle.tools.proofs.Printing.{prints}
 use Rattle.convert.specs.Convert.{to_first}
-use Rattle.convert.specs.Moved.{first_short}
+use Rattle.convert.proofs.Moved.{first_short}
 use Rattle.bench_to_first.proofs.answer.answer.Goals as goal
 
 pub returns : goal.returns

@@ -19,7 +19,8 @@ use Rattle.tools.specs.Result.{Result, result, refusal, of_plan, plan_text}
 use Rattle.tools.specs.Written.{text_whole}
 use Rattle.convert.specs.Convert.{after_line, workers_fields, rewritten, spelled_out, has_first_sizes}
 use Rattle.convert.specs.Convert.{in_second, in_first, to_second, to_first}
-use Rattle.convert.specs.Reread.{with_form, own_line, reread, after_rewritten}
+use Rattle.convert.specs.Reread.{with_form}
+use Rattle.convert.proofs.Reread.{own_line, reread, after_rewritten}
 
 -- ---- a plan's text as a result
 

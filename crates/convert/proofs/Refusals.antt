@@ -19,8 +19,8 @@ use Rattle.tools.specs.declared.Answer.TheVariants.{Writes, Refuses}
 use Rattle.tools.specs.Result.{Result, result, refusal, of_plan, plan_text, Outcome, written}
 use Rattle.tools.specs.Written.{text_long, written_short, written_whole}
 use Rattle.convert.specs.Convert.{rewritten, spelled_out, has_first_sizes, in_second, in_first, to_second, to_first}
-use Rattle.convert.specs.Reread.{own_line}
-use Rattle.convert.specs.Moved.{second_is, are_first, first_sizes, second_stays, spelled_length, unspelled_length}
+use Rattle.convert.proofs.Reread.{own_line}
+use Rattle.convert.proofs.Moved.{second_is, are_first, first_sizes, second_stays, spelled_length, unspelled_length}
 
 -- ---- where a refusal comes from
 
