@@ -6,4 +6,8 @@ use Rattle.chain_c.proofs.salfunye_chain.Goals as goal
 
 pub returns : goal.returns
 returns c =
-    let told = c.longest_chain.ensures.outcome in record { answer = c.in_numbers.ensures ∙ ap (λ (o : Outcome). numbers o.answer) told; output = ap (λ (o : Outcome). o.output) told }
+    let told = c.longest_chain.ensures.outcome in
+    record {
+      answer = c.in_numbers.ensures ∙ ap (λ (o : Outcome). numbers o.answer) told;
+      output = ap (λ (o : Outcome). o.output) told;
+    }

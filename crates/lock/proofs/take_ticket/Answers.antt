@@ -5,4 +5,7 @@ use Rattle.lock.proofs.take_ticket.Goals as goal
 
 pub returns : goal.returns
 returns c =
-    record { ends = (refl, refl, refl); lock = λ slots wait registrations tickets tasks. take_lock slots _ _ wait registrations tickets tasks }
+    record {
+      ends = (refl, refl, refl);
+      lock = λ slots wait registrations tickets tasks. take_lock slots _ _ wait registrations tickets tasks;
+    }

@@ -16,4 +16,8 @@ wait_with-requires c =
 pub returns : goal.returns
 returns c =
     let own = c.args.own.now in
-    let waits = c.wait_with in record { gone = gone own waits.new.own LOOKING c.args.ticket c.requires waits.auto.own waits.ensures.meaning; slot = noted own waits.new.own LOOKING c.args.ticket c.args.slot c.requires waits.ensures.numbers }
+    let waits = c.wait_with in
+    record {
+      gone = gone own waits.new.own LOOKING c.args.ticket c.requires waits.auto.own waits.ensures.meaning;
+      slot = noted own waits.new.own LOOKING c.args.ticket c.args.slot c.requires waits.ensures.numbers;
+    }

@@ -7,7 +7,9 @@ use Rattle.picks.proofs.count_of.Goals as goal
 pub overflow_mul-result : goal.overflow_mul-result
 overflow_mul-result c =
     let (some_workers, few_workers, (order, row)) = c.requires in
-    record { fits = omega (arith, rounds_fit c.args.workers c.args.order some_workers few_workers c.if-order-eq-IN_TURN.true order row) }
+    record {
+      fits = omega (arith, rounds_fit c.args.workers c.args.order some_workers few_workers c.if-order-eq-IN_TURN.true order row);
+    }
 
 pub returns-then-order-eq-IN_TURN : goal.returns-then-order-eq-IN_TURN
 returns-then-order-eq-IN_TURN c =

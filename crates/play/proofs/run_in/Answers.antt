@@ -12,7 +12,11 @@ use Rattle.play.proofs.run_in.Goals as goal
 pub set_up-begin-requires : goal.set_up-begin-requires
 set_up-begin-requires c =
     let lengths = c.requires.lengths in
-    let (p, e, says) = c.requires.loaded in record { lengths = (lengths.4, lengths.5, lengths.6, lengths.7); loaded = (_, p, e, says.tasks) }
+    let (p, e, says) = c.requires.loaded in
+    record {
+      lengths = (lengths.4, lengths.5, lengths.6, lengths.7);
+      loaded = (_, p, e, says.tasks);
+    }
 
 pub play_orders-n-requires : goal.play_orders-n-requires
 play_orders-n-requires c =

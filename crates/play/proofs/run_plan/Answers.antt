@@ -8,4 +8,9 @@ use Rattle.play.proofs.run_plan.Goals as goal
 
 pub run_in-requires : goal.run_in-requires
 run_in-requires c =
-    let pre = c.requires in record { room = pre.room; lengths = (refl, refl, refl, refl, refl, refl, refl, refl, λ i l. get_or-replicate device_size (GIVERS + i) 0 0 (omega arith)); loaded = pre.loaded }
+    let pre = c.requires in
+    record {
+      room = pre.room;
+      lengths = (refl, refl, refl, refl, refl, refl, refl, refl, λ i l. get_or-replicate device_size (GIVERS + i) 0 0 (omega arith));
+      loaded = pre.loaded;
+    }

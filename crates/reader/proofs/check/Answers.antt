@@ -9,4 +9,8 @@ pub returns : goal.returns
 returns c =
     let text = c.args.text.now in
     let is = ap (λ (r : ReadPlan). checked_text r.checked r.looks) c.outline-read.ensures in
-    let answer = is ∙ outlined_verdict text (reading text) in record { answer = answer; told = ap told answer ∙ told_verdict text }
+    let answer = is ∙ outlined_verdict text (reading text) in
+    record {
+      answer = answer;
+      told = ap told answer ∙ told_verdict text;
+    }

@@ -33,7 +33,11 @@ step_own-requires c =
     let (setup, state, long, holds, fit) = c.requires.long in
     let store = c.args.store.now in
     let w = c.args.w in
-    let lent = share_lent store w (workers_few fit) c.requires.room in record { able = counted_able c.args.store.now long holds fit (sym lent); not_draining = rw (lent, share_at store w place_at (omega arith)) (drains_not _ c.if-place-lt-DRAINING_TO_SERVE.true) }
+    let lent = share_lent store w (workers_few fit) c.requires.room in
+    record {
+      able = counted_able c.args.store.now long holds fit (sym lent);
+      not_draining = rw (lent, share_at store w place_at (omega arith)) (drains_not _ c.if-place-lt-DRAINING_TO_SERVE.true);
+    }
 
 pub returns-then-place-lt-DRAINING_TO_SERVE : goal.returns-then-place-lt-DRAINING_TO_SERVE
 returns-then-place-lt-DRAINING_TO_SERVE c =
@@ -56,10 +60,17 @@ drain_step-requires c =
     let x = c.args in
     let (setup, state, long, holds, fit) = c.requires.long in
     let place = share_at x.store.now x.w place_at (omega arith) in
-    let few = rw place at (own_place (counted_able c.args.store.now long holds fit refl)) in record { room = (c.requires.room, workers_few fit, rw place (drains_there _ c.if-place-lt-DRAINING_TO_SERVE.false few)); long = ((memory x.n x.wait.now x.registrations.now x.tickets.now x.cells.now x.device.now x.rows.now x.accesses.now), setup, picked state, counted_long long, counted_holds holds, fit) }
+    let few = rw place at (own_place (counted_able c.args.store.now long holds fit refl)) in
+    record {
+      room = (c.requires.room, workers_few fit, rw place (drains_there _ c.if-place-lt-DRAINING_TO_SERVE.false few));
+      long = (memory x.n x.wait.now x.registrations.now x.tickets.now x.cells.now x.device.now x.rows.now x.accesses.now, setup, picked state, counted_long long, counted_holds holds, fit);
+    }
 
 pub returns : goal.returns
 returns c =
     let d = c.drain_step in
     let x = c.args in
-    record { held = λ k u h f. acted_holds k u c.args.w (d.ensures.held ((memory x.n x.wait.now x.registrations.now x.tickets.now x.cells.now x.device.now x.rows.now x.accesses.now)) k (picked u) (counted_holds h) f); later = d.ensures.later }
+    record {
+      held = λ k u h f. acted_holds k u c.args.w (d.ensures.held (memory x.n x.wait.now x.registrations.now x.tickets.now x.cells.now x.device.now x.rows.now x.accesses.now) k (picked u) (counted_holds h) f);
+      later = d.ensures.later;
+    }

@@ -9,7 +9,11 @@ use Rattle.duties.proofs.create.close.Goals as goal
 pub lower-requires : goal.lower-requires
 lower-requires c =
     let ((m, w, a), none, one, last) = c.requires in
-    let own = own_stored a in record { lengths = (a.long.rows, task_few a (omega (arith, one)), own.long, own.adds_at_lem); adds = λ some least. omega (arith, none) }
+    let own = own_stored a in
+    record {
+      lengths = (a.long.rows, task_few a (omega (arith, one)), own.long, own.adds_at_lem);
+      adds = λ some least. omega (arith, none);
+    }
 
 pub overflow_add-r : goal.overflow_add-r
 overflow_add-r c =

@@ -10,4 +10,9 @@ take_add-requires c =
 
 pub returns : goal.returns
 returns c =
-    let meaning = c.take_add.ensures.meaning in record { numbers = c.take_add.ensures.numbers; meaning = λ m k w i is a can. gave a i is _ (meaning (a.st w) (a.t.mail w) i is (rw (first_add a can) at (own_stored a))).1 k; oldest = λ m w a i is e. (meaning (a.st w) (a.t.mail w) i is (rw e at (own_stored a))).0 }
+    let meaning = c.take_add.ensures.meaning in
+    record {
+      numbers = c.take_add.ensures.numbers;
+      meaning = λ m k w i is a can. gave a i is _ (meaning (a.st w) (a.t.mail w) i is (rw (first_add a can) at (own_stored a))).1 k;
+      oldest = λ m w a i is e. (meaning (a.st w) (a.t.mail w) i is (rw e at (own_stored a))).0;
+    }

@@ -15,4 +15,7 @@ bounds-own-at-3 c =
 
 pub returns : goal.returns
 returns c =
-    record { numbers = refl; meaning = λ p mail adds m h is. stored_post h c.requires.2 c.args.to c.args.flags c.args.sender m is }
+    record {
+      numbers = refl;
+      meaning = λ p mail adds m h is. stored_post h c.requires.2 c.args.to c.args.flags c.args.sender m is;
+    }

@@ -44,7 +44,11 @@ returns-then-is_set c =
     let l = c.loop-k in
     let x = c.args in
     let first : First (λ j. is_set (mask_at x.n x.device.now j) x.w) x.n.ready l.k =
-    record { within = l.invariant.0; before = l.invariant.1; found = λ h. sym (set_is c.args.n c.args.device.now c.args.w c.loop-k.k c.task_at.ensures.numbers c.is_set.ensures) ∙ c.if-is_set.true } in record { numbers = first; meaning = falls x.n x.device.now x.w l.k first }
+    record { within = l.invariant.0; before = l.invariant.1; found = λ h. sym (set_is c.args.n c.args.device.now c.args.w c.loop-k.k c.task_at.ensures.numbers c.is_set.ensures) ∙ c.if-is_set.true } in
+    record {
+      numbers = first;
+      meaning = falls x.n x.device.now x.w l.k first;
+    }
 
 pub loop-k-preserved : goal.loop-k-preserved
 loop-k-preserved c =
@@ -56,4 +60,8 @@ returns c =
     let l = c.loop-k in
     let x = c.args in
     let first : First (λ j. is_set (mask_at x.n x.device.now j) x.w) x.n.ready l.k =
-    record { within = l.invariant.0; before = l.invariant.1; found = λ h. absurd (omega (arith, c.loop-k-test.false)) } in record { numbers = first; meaning = falls x.n x.device.now x.w l.k first }
+    record { within = l.invariant.0; before = l.invariant.1; found = λ h. absurd (omega (arith, c.loop-k-test.false)) } in
+    record {
+      numbers = first;
+      meaning = falls x.n x.device.now x.w l.k first;
+    }

@@ -21,7 +21,12 @@ returns-then-count-eq0 c =
     let none : get_or own queued_at 0 ≡ 0 = c.if-count-eq0.true in
     let same : emptied own ≡ own = ap (set own queued_at) (sym none) ∙ set-get_or own queued_at 0 in
     let empty : entries (queue_slot own) queue_slots 0 (get_or own queued_at 0) ≡ [] =
-    rw none (entries_none (queue_slot own) queue_slots 0) in record { numbers = (omega (arith, none), sym same, rw (none, drained)); station = λ p queue h. rw same at (stationed_drained h); ready = λ p queue tasks h e. e ∙ sym (append-nil tasks) ∙ ap (λ q. tasks ++ q) (sym empty ∙ h.queue) }
+    rw none (entries_none (queue_slot own) queue_slots 0) in
+    record {
+      numbers = (omega (arith, none), sym same, rw (none, drained));
+      station = λ p queue h. rw same at (stationed_drained h);
+      ready = λ p queue tasks h e. e ∙ sym (append-nil tasks) ∙ ap (λ q. tasks ++ q) (sym empty ∙ h.queue);
+    }
 
 pub loop-i-init : goal.loop-i-init
 unfolding drained
@@ -41,4 +46,9 @@ pub returns : goal.returns
 unfolding arrive
 returns c =
     let l = c.loop-i in
-    let all : l.i ≡ get_or c.args.own.now queued_at 0 = omega (arith, l.invariant) in record { numbers = (omega (arith, l.invariant.1), refl, rw all at l.invariant.3); station = λ p queue h. stationed_drained h; ready = λ p queue tasks h e. let q = h.queue in cc }
+    let all : l.i ≡ get_or c.args.own.now queued_at 0 = omega (arith, l.invariant) in
+    record {
+      numbers = (omega (arith, l.invariant.1), refl, rw all at l.invariant.3);
+      station = λ p queue h. stationed_drained h;
+      ready = λ p queue tasks h e. let q = h.queue in cc;
+    }

@@ -14,4 +14,8 @@ bounds-own-3 c =
 
 pub returns : goal.returns
 returns c =
-    let went = c.go.ensures.numbers in record { numbers = ap (λ (own : List ℕ). set own slot_at c.args.slot) went; meaning = λ p to queue h coded. rw went (stationed_wait h c.args.ticket c.args.slot to coded) }
+    let went = c.go.ensures.numbers in
+    record {
+      numbers = ap (λ (own : List ℕ). set own slot_at c.args.slot) went;
+      meaning = λ p to queue h coded. rw went (stationed_wait h c.args.ticket c.args.slot to coded);
+    }

@@ -10,7 +10,11 @@ put_number-requires c =
 
 pub returns-then-known : goal.returns-then-known
 returns-then-known c =
-    let wrote = c.put_number.ensures in record { short = wrote.short; wrote = wrote_same wrote.wrote (number_known c.args.known c.args.n c.if-known.true) }
+    let wrote = c.put_number.ensures in
+    record {
+      short = wrote.short;
+      wrote = wrote_same wrote.wrote (number_known c.args.known c.args.n c.if-known.true);
+    }
 
 pub put_field-requires : goal.put_field-requires
 put_field-requires c =
@@ -19,4 +23,8 @@ put_field-requires c =
 pub returns : goal.returns
 returns c =
     let wrote = c.put_field.ensures in
-    let unknown = number_unknown c.args.known c.args.n c.if-known.false in record { short = short_next 20 (omega arith) wrote; wrote = wrote_same wrote unknown }
+    let unknown = number_unknown c.args.known c.args.n c.if-known.false in
+    record {
+      short = short_next 20 (omega arith) wrote;
+      wrote = wrote_same wrote unknown;
+    }

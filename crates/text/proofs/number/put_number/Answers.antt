@@ -25,4 +25,8 @@ put_byte-requires c =
 
 pub returns : goal.returns
 returns c =
-    let wrote = wrote_then c.put_digits-next.ensures refl c.put_byte.ensures in record { short = short_next 20 (decimal_20 c.args.n (omega arith)) wrote; wrote = wrote }
+    let wrote = wrote_then c.put_digits-next.ensures refl c.put_byte.ensures in
+    record {
+      short = short_next 20 (decimal_20 c.args.n (omega arith)) wrote;
+      wrote = wrote;
+    }

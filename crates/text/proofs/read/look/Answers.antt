@@ -10,8 +10,16 @@ use Rattle.text.proofs.read.look.Goals as goal
 
 pub returns-then-at-text : goal.returns-then-at-text
 returns-then-at-text c =
-    let text = c.args.text.now in record { byte = c.wide.ensures ∙ get_d_any text c.args.at 0 NONE (search rules); counted = ap (λ (n : ℕ). n + 1) c.requires ∙ sym (look_within text c.args.at (search rules)) }
+    let text = c.args.text.now in
+    record {
+      byte = c.wide.ensures ∙ get_d_any text c.args.at 0 NONE (search rules);
+      counted = ap (λ (n : ℕ). n + 1) c.requires ∙ sym (look_within text c.args.at (search rules));
+    }
 
 pub returns : goal.returns
 returns c =
-    let text = c.args.text.now in record { byte = sym (get_or-eq_default text NONE (search rules)); counted = c.requires ∙ sym (look_past text c.args.at (search rules)) }
+    let text = c.args.text.now in
+    record {
+      byte = sym (get_or-eq_default text NONE (search rules));
+      counted = c.requires ∙ sym (look_past text c.args.at (search rules));
+    }
