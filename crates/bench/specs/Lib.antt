@@ -8,5 +8,3 @@ pub mod OwnAnswer
 pub mod OwnLock
 pub mod OwnChain
 pub mod NoPicks
-pub mod Unread
-pub mod Moved

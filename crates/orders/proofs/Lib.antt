@@ -2,3 +2,5 @@ pub mod Limits
 pub mod Lines
 pub mod Playing
 pub mod LineByLine
+pub mod Sizes
+pub mod AcceptedRuns

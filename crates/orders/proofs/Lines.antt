@@ -24,8 +24,8 @@ use Rattle.machine.proofs.Ranges.{going_start}
 use Rattle.orders.specs.Reached.{setup_of, reached}
 use Rattle.orders.specs.Limited.{limited, drawn_to, Under}
 use Rattle.orders.specs.Picked.{picks_order}
-use Rattle.orders.specs.Sizes.{picks_few}
-use Rattle.orders.specs.AcceptedRuns.{playable, sized}
+use Rattle.orders.proofs.Sizes.{picks_few}
+use Rattle.orders.proofs.AcceptedRuns.{playable, sized}
 use Rattle.orders.proofs.Limits.{limited_none, limited_full, limited_finished, limited_append, limited_picks, limited_going}
 
 -- order line i, and the picks of those from line i on

@@ -2,6 +2,5 @@ pub mod Reached
 pub mod Picked
 pub mod Turns
 pub mod Sizes
-pub mod AcceptedRuns
 pub mod Limited
 pub mod Played

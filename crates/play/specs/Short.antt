@@ -14,9 +14,10 @@ use Rattle.machine.specs.declared.Leader.{Leader}
 use Rattle.machine.specs.declared.Leader.TheVariants.{Nobody, Owner, Due}
 use Rattle.machine.specs.Whereabouts.{leader}
 use Rattle.report.specs.Report.{total_permitted}
-use Rattle.report.specs.Sizes.{longest, LeaderBelow, Small, report_short}
+use Rattle.report.specs.Sizes.{longest, LeaderBelow, Small}
+use Rattle.report.proofs.Sizes.{report_short}
 use Rattle.orders.specs.Reached.{setup_of, reached}
-use Rattle.orders.specs.AcceptedRuns.{playable, own_picks, own_givers, own_leaders, numbers_small}
+use Rattle.orders.proofs.AcceptedRuns.{playable, own_picks, own_givers, own_leaders, numbers_small}
 use Rattle.play.specs.Outcome.{report_of}
 
 module _ (text : List ℕ) (p : Plan) (e : reading text ≡ accepted p) (limit : ℕ) where

@@ -1,7 +1,7 @@
 -- `run` meets its contract.
 use native.Mathlib.Omega.{arith}
 use mathlib.Core.Path.{sym, ◌∙◌}
-use Rattle.bench.specs.Told.{and_told}
+use Rattle.bench.proofs.Told.{and_told}
 use Rattle.bench.specs.Tested.{run_long, run_small, run_read}
 use Rattle.bench.proofs.run.Goals as goal
 

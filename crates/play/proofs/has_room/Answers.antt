@@ -6,7 +6,7 @@ use lib.ListN.{length}
 use borrow.Author.Tests.{le-leb}
 use Rattle.text.specs.WritingLaws.{told_length}
 use Rattle.report.specs.Report.{report}
-use Rattle.report.specs.Sizes.{report_short}
+use Rattle.report.proofs.Sizes.{report_short}
 use Rattle.play.proofs.has_room.Goals as goal
 
 pub returns-then-size-ge-LONGEST : goal.returns-then-size-ge-LONGEST

@@ -4,7 +4,7 @@ use native.Mathlib.Omega.{arith}
 use mathlib.Core.Path.{◌∙◌}
 use mathlib.Core.List.{[]}
 use Rattle.orders.specs.Reached.{setup_of, reached}
-use Rattle.orders.specs.AcceptedRuns.{sized}
+use Rattle.orders.proofs.AcceptedRuns.{sized}
 use Rattle.scheduler.specs.Lent.{memory}
 use Rattle.play.specs.Short.{small}
 use Rattle.play.proofs.run_in.Goals as goal

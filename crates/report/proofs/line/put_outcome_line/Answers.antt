@@ -3,7 +3,7 @@ use mathlib.Core.Path.{refl}
 use native.Mathlib.Omega.{arith}
 use Rattle.text.specs.Text.{bytes}
 use Rattle.text.specs.WritingLaws.{short_ends, short_next, wrote_field, wrote_last}
-use Rattle.report.specs.Sizes.{outcome_short}
+use Rattle.report.proofs.Sizes.{outcome_short}
 use Rattle.report.proofs.line.put_outcome_line.Goals as goal
 
 pub put_field-next-requires : goal.put_field-next-requires

@@ -33,7 +33,7 @@ use Rattle.machine.proofs.Chains.{chains}
 use Rattle.orders.specs.Reached.{setup_of, reached}
 use Rattle.orders.specs.Picked.{picks_below}
 use Rattle.orders.specs.Turns.{picked_in_turn}
-use Rattle.orders.specs.Sizes.{picks_few}
+use Rattle.orders.proofs.Sizes.{picks_few}
 
 -- head and all wait slots start at the number of slots, the tail one above
 pub start_values : (p : Plan) (k : ℕ) → let l = (start (setup_of p)).lock in
