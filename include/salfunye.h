@@ -1,10 +1,12 @@
 /*
  * The bench, its converters, the longest chain of a plan and the lock for C callers.
  *
- *   salfunye_check, salfunye_run              libbench_c.a     (rt staticlib bench_c)
- *   salfunye_to_second, salfunye_to_first     libconvert_c.a   (rt staticlib convert_c)
- *   salfunye_chain                            libchain_c.a     (rt staticlib chain_c)
- *   salfunye_lock_...                         liblock_c.a      (rt staticlib lock_c)
+ *   salfunye_check, salfunye_run              crates/bench_c/out/libbench_c.a
+ *   salfunye_to_second, salfunye_to_first     crates/convert_c/out/libconvert_c.a
+ *   salfunye_chain                            crates/chain_c/out/libchain_c.a
+ *   salfunye_lock_...                         crates/lock_c/out/liblock_c.a
+ *
+ * `rt lib` in the folder of a crate proves it and writes its library.
  *
  * Every function takes any values. What a pointer and its length name must be
  * there for the call, and no two arguments of a call may overlap; a pointer

@@ -2,18 +2,31 @@
 
 #![tactic(auto)]
 
+ghost use Rattle.std.specs.Prelude.{OnOk, IfSome};
+ghost use Rattle.std.specs.Io.KnownBytes.{Appends};
+ghost use Rattle.tools.specs.Result.{printed};
+ghost use Rattle.convert.specs.Convert.{to_first};
+
 use answer::answer;
 use std::io;
+use std::io::{Read, Write};
 use tools::read_into;
 
 mod answer; // answer.rt: what is printed for a text
 
-fn main(rt: HostRuntime) -> io::Result<()> {
+// From an input to what is printed for the whole of it.
+fn serve<R: Read, W: Write>(input: &mut R, to: &mut W) -> io::Result<()>
+    ensures { OnOk result (IfSome (R.remaining input.old) (λ text. Appends (W.contents to.old) (W.contents to.new) (printed (to_first text)))) }
+{
     // one byte more than a plan may have: of a longer text no more is needed, `cut_alike` in specs/Cut.antt of the crate tools
     let mut text = [0u8; 65537];
-    let size = read_into(&mut rt.stdin(), &mut text)?;
+    let size = read_into(input, &mut text)?;
     // no result is longer
     let mut output = [0u8; 65536];
     let length = answer(&text[..size], &mut output);
-    rt.write_all(&output[..length])
+    to.write_all(&output[..length])
+}
+
+fn main(rt: HostRuntime) -> io::Result<()> {
+    serve(&mut rt.stdin(), &mut rt.stdout())
 }

@@ -4,7 +4,8 @@
 //! output); and on COUNT smaller ones, whose chains can all be listed, that of the longest chain.
 //! Says how many of the plans are accepted with M lines, in how many runs an owner serves or takes
 //! otherwise because of them, how many reports have `>` in their L line, and how many chains were
-//! chosen among equal sums.
+//! chosen among equal sums. The definitions are those of the libraries that stand proved in the
+//! crates' folders (`tools/over_proved`).
 
 use second::chain::{longest_chain, LONGEST_LINE};
 use second::chosen::Chosen;
@@ -17,8 +18,8 @@ use second::random::Rng;
 use second::tool::Tool;
 use second::{random, run};
 use std::fmt::Write as _;
-use std::path::{Path, PathBuf};
-use std::process::{exit, Command};
+use std::path::Path;
+use std::process::{exit, Command, Output};
 
 const REFUSALS: [&str; 11] = [
     "Malformed",
@@ -134,7 +135,7 @@ fn checked(seed: u64) -> String {
     };
     format!(
         "check-{seed} : told (check ({}))\n    ≡ record {{ number = {number}; values = {} }}\n\
-         unfolding computed linesSize\ncheck-{seed} = refl\n\n",
+         unfolding computed lines_size\ncheck-{seed} = refl\n\n",
         list(&text, None),
         list(&values, None),
     )
@@ -142,14 +143,14 @@ fn checked(seed: u64) -> String {
 
 /// The theorem that a converter's definition gives for a text what this implementation gives.
 fn moved(seed: u64, name: &str, convert: Tool) -> String {
-    let unfolds = format!("afterLine {name}");
+    let unfolds = format!("after_line {name}");
     made(seed, name, &random::sample(seed), convert, &unfolds)
 }
 
 /// The same of the longest chain.
 fn chained(seed: u64) -> String {
     let text = random::chain_sample(seed);
-    made(seed, "chainOf", &text, longest_chain, "computedChain")
+    made(seed, "chain_of", &text, longest_chain, "computed_chain")
 }
 
 /// The theorem that a tool's definition gives for a text what this implementation gives; in an
@@ -220,60 +221,46 @@ fn chosen_among_equals(seed: u64) -> bool {
 
 fn module(first: u64, count: u64) -> String {
     let mut out = String::from(
-        "use mathlib.Core.Path.{_≡_, refl}\nuse mathlib.Core.List.{[], _∷_, _++_}\nuse lib.ListN.{replicate}\n",
+        "use Rattle.std.specs.Prelude.{◌≡◌, refl, [], ◌∷◌, ◌++◌, replicate}\n",
     );
     let _ = writeln!(
         out,
-        "use Rattle·refusals.specs.declared.Refusal.the-variants.{{{}}}",
+        "use Rattle.refusals.specs.declared.Refusal.TheVariants.{{{}}}",
         REFUSALS.join(", ")
     );
-    out.push_str("use Rattle·play.specs.declared.Answer.the-variants.{Reports, Refuses}\nuse Rattle·play.specs.Outcome.{written}\nuse Rattle·bench.specs.Answer.{check, run, played}\nuse Rattle·bench.specs.Computed.{computed}\n");
+    out.push_str("use Rattle.play.specs.declared.Answer.TheVariants.{Reports, Refuses}\nuse Rattle.play.specs.Outcome.{written}\nuse Rattle.bench.specs.Answer.{check, run, played}\nuse Rattle.bench.specs.Computed.{computed}\n");
     out.push_str(
-        "use Rattle·text.specs.LineEnds.{linesSize}\nuse Rattle·reader.specs.Verdict.{told}\n",
+        "use Rattle.text.specs.LineEnds.{lines_size}\nuse Rattle.reader.specs.Verdict.{told}\n",
     );
-    out.push_str("use Rattle·tools.specs.declared.Answer.the-variants as tools\nuse Rattle·tools.specs.Result.{written as converted}\nuse Rattle·convert.specs.Convert.{afterLine, toSecond, toFirst}\n");
-    out.push_str("use Rattle·chain.specs.Longest.{chainOf}\nuse Rattle·chain.specs.Examples.{computedChain}\n\n");
+    out.push_str("use Rattle.tools.specs.declared.Answer.TheVariants as tools\nuse Rattle.tools.specs.Result.{written as converted}\nuse Rattle.convert.specs.Convert.{after_line, to_second, to_first}\n");
+    out.push_str("use Rattle.chain.specs.Longest.{chain_of}\nuse Rattle.chain.specs.Examples.{computed_chain}\n\n");
     for seed in first..first + count {
         out.push_str(&checked(seed));
         out.push_str(&theorem(seed));
-        out.push_str(&moved(seed, "toSecond", to_second));
-        out.push_str(&moved(seed, "toFirst", to_first));
+        out.push_str(&moved(seed, "to_second", to_second));
+        out.push_str(&moved(seed, "to_first", to_first));
         out.push_str(&chained(seed));
     }
     out
 }
 
-fn copy(from: &Path, to: &Path) {
-    let done = Command::new("cp").arg("-R").arg(from).arg(to).status();
-    if !matches!(done, Ok(s) if s.success()) {
-        eprintln!("cannot copy {}", from.display());
-        exit(2);
-    }
+/// The libraries whose definitions the theorems name.
+const LIBRARIES: &str = "text refusals reader play bench tools convert chain";
+
+/// Writes a crate of theorems into a folder.
+fn lay_out(room: &Path, text: &str) -> std::io::Result<()> {
+    std::fs::create_dir_all(room.join("src"))?;
+    std::fs::create_dir_all(room.join("specs"))?;
+    std::fs::write(room.join("src/lib.rt"), "// Theorems alone.\n")?;
+    std::fs::write(room.join("specs/Lib.antt"), text)
 }
 
-/// A repository beside the real one, with the same crates, what is proved of them, and one crate of theorems.
-fn lay_out(root: &Path, text: &str) -> std::io::Result<PathBuf> {
-    let room = root.join("target/compare");
-    let _ = std::fs::remove_dir_all(&room);
-    std::fs::create_dir_all(room.join("target"))?;
-    copy(&root.join("crates"), &room);
-    for part in ["rlib", "stamp"] {
-        let proved = root.join("target").join(part);
-        if proved.exists() {
-            copy(&proved, &room.join("target"));
-        }
-    }
-    let listed = std::fs::read_to_string(root.join("crates.txt"))?;
-    std::fs::write(
-        room.join("crates.txt"),
-        format!("{listed}\ncompared: text refusals reader play bench tools convert chain\n"),
-    )?;
-    let compared = room.join("crates/compared");
-    std::fs::create_dir_all(compared.join("src"))?;
-    std::fs::create_dir_all(compared.join("specs"))?;
-    std::fs::write(compared.join("src/lib.rt"), "// Theorems alone.\n")?;
-    std::fs::write(compared.join("specs/Lib.antt"), text)?;
-    Ok(room)
+/// Has the proof checker check the crate in a folder.
+fn checked_in(room: &Path, root: &Path) -> std::io::Result<Output> {
+    Command::new(root.join("tools/over_proved"))
+        .args([LIBRARIES, "check", "compared"])
+        .current_dir(room)
+        .output()
 }
 
 fn main() {
@@ -286,20 +273,15 @@ fn main() {
         exit(2);
     };
     let root = Path::new(env!("CARGO_MANIFEST_DIR")).join("..");
-    let room = match lay_out(&root, &module(seed, count)) {
-        Ok(room) => room,
+    let room = std::env::temp_dir().join(format!("compare-{}", std::process::id()));
+    let done = lay_out(&room, &module(seed, count)).and_then(|()| checked_in(&room, &root));
+    let _ = std::fs::remove_dir_all(&room);
+    let done = match done {
+        Ok(done) => done,
         Err(e) => {
             eprintln!("compare: {e}");
             exit(2);
         }
-    };
-    let done = Command::new("rt")
-        .args(["check", "compared"])
-        .current_dir(&room)
-        .output();
-    let Ok(done) = done else {
-        eprintln!("compare: rt cannot be run");
-        exit(2);
     };
     if done.status.success() {
         let seeds = seed..seed + count;
