@@ -13,8 +13,7 @@ use Rattle.machine.specs.Figures.{finishing_figure}
 use Rattle.report.specs.Report.{total_permitted, outcome_line, task_lines, lock_line, report}
 use Rattle.orders.specs.Reached.{setup_of, reached}
 use Rattle.orders.proofs.AcceptedRuns.{own_finish}
-use Rattle.play.specs.declared.Answer.TheVariants.{Reports}
-use Rattle.play.specs.Outcome.{report_of, written}
+use Rattle.play.specs.Outcome.{report_of, reports, written}
 use Rattle.play.specs.Written.{written_whole}
 use Rattle.bench.specs.Answer.{store_size, cleared, played, run}
 use Rattle.bench.specs.Tested.{run_read}
@@ -48,7 +47,7 @@ module _ (text : List ℕ) (p : Plan) (e : reading text ≡ accepted p) (limit :
 
   module _ (long : length (report_of p limit) ≤ length output) where
     -- the answer says how many picks were taken and how long the report is; the output begins with the report
-    pub own_answer : ((run limit store output text).answer ≡ Reports (reached p limit).picks (length (report_of p limit)))
+    pub own_answer : ((run limit store output text).answer ≡ reports (reached p limit).picks (length (report_of p limit)))
         × Begins (report_of p limit) (run limit store output text).output
     own_answer =
         let w = answers ∙ written_whole (cleared store) output (reached p limit).picks (report_of p limit) long in
@@ -65,7 +64,7 @@ module _ (text : List ℕ) (p : Plan) (e : reading text ≡ accepted p) (limit :
     pub own_answer_finishes : (B : ℕ) → Regular p.workers B (picks_up_to limit p)
         → finishing_figure (setup_of p) B ≤ length (picks_up_to limit p)
         → (picks : ℕ) × (n : ℕ)
-        × ((run limit store output text).answer ≡ Reports picks n)
+        × ((run limit store output text).answer ≡ reports picks n)
         × (picks ≤ finishing_figure (setup_of p) B)
         × Begins (line (bytes "E" ∷ bytes "finished" ∷ decimal picks ∷ decimal (total_permitted (setup_of p)) ∷ []))
         (run limit store output text).output

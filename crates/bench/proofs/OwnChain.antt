@@ -17,8 +17,7 @@ use Rattle.chain.specs.Longest.{longest, chain_line, chain_of}
 use Rattle.chain.proofs.Ordered.{longest_or_none}
 use Rattle.orders.specs.Reached.{setup_of, reached}
 use Rattle.orders.proofs.AcceptedRuns.{own_chains, own_at_least}
-use Rattle.play.specs.declared.Answer.TheVariants.{Reports}
-use Rattle.play.specs.Outcome.{report_of}
+use Rattle.play.specs.Outcome.{report_of, reports}
 use Rattle.bench.specs.Answer.{store_size, run}
 use Rattle.bench.specs.OwnAnswer.{Begins}
 use Rattle.bench.proofs.OwnAnswer.{own_answer, own_answer_finished}
@@ -55,7 +54,7 @@ module _ (text : List ℕ) (p : Plan) (e : reading text ≡ accepted p) where
     pub own_answer_chain : OnlyRounds p.orders → (store output : List ℕ) → store_size ≤ length store
         → length (report_of p limit) ≤ length output
         → (picks : ℕ) × (n : ℕ) × (sum : ℕ) × (numbers : List ℕ)
-        × ((run limit store output text).answer ≡ Reports picks n)
+        × ((run limit store output text).answer ≡ reports picks n)
         × Begins (line (bytes "E" ∷ bytes "finished" ∷ decimal picks ∷ decimal (total_permitted (setup_of p)) ∷ []))
         (run limit store output text).output
         × (chain_of text ≡ result (line (decimal sum ∷ map decimal numbers)))

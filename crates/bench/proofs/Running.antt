@@ -7,7 +7,9 @@ use native.Mathlib.Omega.{arith}
 use lib.ListN.{length, take, drop, replicate, length-replicate}
 use lib.Seq.{take_at, drop_at}
 use Rattle.runs.specs.Update.{order}
+use Rattle.std.specs.Prelude.{Result, Ok}
 use Rattle.refusals.specs.declared.Refusal.{Refusal}
+use Rattle.refusals.specs.declared.Refused.{Refused}
 use Rattle.plan.specs.Plan.{Plan}
 use Rattle.plan.specs.Reading.{accepted, refused, reading}
 use Rattle.plan.proofs.Accepted.{accepted_well_formed, accepted_orders}
@@ -15,36 +17,31 @@ use Rattle.kept.specs.Layout as layout
 use Rattle.kept.specs.TaskLaws.{tasks_length, has_tasks}
 use Rattle.kept.specs.OrderLaws.{has_orders_lem}
 use Rattle.reader.specs.declared.ReadPlan.{ReadPlan}
-use Rattle.reader.specs.declared.Checked.TheVariants.{Accepted}
+use Rattle.reader.specs.declared.ReadText.{ReadText}
 use Rattle.reader.specs.Verdict.{Lent, Gives}
 use Rattle.reader.specs.Given.{read_accepted}
 use Rattle.orders.specs.Reached.{reached}
-use Rattle.play.specs.declared.Answer.{Answer}
-use Rattle.play.specs.declared.Answer.TheVariants.{Refuses}
-use Rattle.play.specs.Outcome.{Outcome, report_of, written}
+use Rattle.play.specs.declared.Ran.{Ran}
+use Rattle.play.specs.Outcome.{Outcome, report_of, refuses, written}
 use Rattle.play.specs.Loaded.{Loaded}
 use Rattle.play.specs.Written.{written_short, written_whole}
 use Rattle.bench.specs.Answer.{store_size, cleared, played}
 
 -- a plan that is accepted is loaded, where there is room for all of it
-pub read_loaded : (text : List ℕ) (before after : Lent) (r : ReadPlan) → Gives text before after r (reading text) → r.checked ≡ Accepted
-    → length before.rows ≡ layout.task_rows → length text ≤ 2 * length before.lines
-    → (p : Plan) × (reading text ≡ accepted p) × Loaded text after.rows after.lines r p
-read_loaded text before after r g e rows lines =
-    let (p, q, h) = read_accepted text before after r g e in
+pub read_loaded : (text : List ℕ) (before after : Lent) (r : ReadText) (x : ReadPlan) → Gives text before after r (reading text)
+    → r.plan ≡ Ok x → length before.rows ≡ layout.most_tasks → length text ≤ 4 * length before.lines
+    → (p : Plan) × (reading text ≡ accepted p) × Loaded text after.rows after.lines x p
+read_loaded text before after r x g e rows lines =
+    let (p, q, same, h) = read_accepted text before after r g x e in
     let formed = accepted_well_formed text p q in (
       p,
       q,
       record {
-        tasks =
-            record {
-              size = tasks_length h.rows ∙ rows;
-              workers = h.workers;
-              form = h.form;
-              count = h.tasks;
-              tasks = has_tasks h.rows (omega (arith, formed.tasks_few, rows));
-            };
-        count = h.orders;
+        tasks = record {
+          size = tasks_length h.rows ∙ rows;
+          read = same;
+          tasks = has_tasks h.rows (omega (arith, formed.tasks_few, rows));
+        };
         orders = has_orders_lem h.lines (omega (arith, accepted_orders text p q, lines));
       },
     )
@@ -53,10 +50,10 @@ module _ (limit : ℕ) (store output text : List ℕ) where
   -- a text that is read: the store is cleared
   module _ (left : List ℕ) (clear : left ≡ replicate store_size 0 ++ drop store_size store) where
     pub played_refused : (x : Refusal) (n : ℕ) → reading text ≡ refused x n
-        → record { answer = Refuses x n; store = left; output = output } ≡ played limit store output (reading text)
+        → record { answer = refuses x n; store = left; output = output } ≡ played limit store output (reading text)
     unfolding played
     played_refused x n e =
-        ap (λ (l : List ℕ). record { answer = Refuses x n; store = l; output = output }) clear
+        ap (λ (l : List ℕ). record { answer = refuses x n; store = l; output = output }) clear
         ∙ sym (ap (played limit store output) e)
 
     written_store : (picks : ℕ) (bs : List ℕ)
@@ -66,7 +63,7 @@ module _ (limit : ℕ) (store output text : List ℕ) where
         (λ (l : length bs ≤ length output). ap (λ (o : Outcome). o.store) (written_whole (cleared store) output picks bs l))
         (order (length output) (length bs))
 
-    pub played_accepted : (p : Plan) (answer : Answer) (out : List ℕ) → reading text ≡ accepted p
+    pub played_accepted : (p : Plan) (answer : Result Ran Refused) (out : List ℕ) → reading text ≡ accepted p
         → (answer ≡ (written (cleared store) output (reached p limit).picks (report_of p limit)).answer)
         × (out ≡ (written (cleared store) output (reached p limit).picks (report_of p limit)).output)
         → record { answer = answer; store = left; output = out } ≡ played limit store output (reading text)

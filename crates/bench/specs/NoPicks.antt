@@ -4,8 +4,7 @@ use Rattle.plan.specs.Plan.{Plan}
 use Rattle.machine.specs.State.{start}
 use Rattle.report.specs.Report.{report}
 use Rattle.orders.specs.Reached.{setup_of}
-use Rattle.play.specs.declared.Answer.TheVariants.{Reports}
-use Rattle.play.specs.Outcome.{Outcome}
+use Rattle.play.specs.Outcome.{Outcome, reports}
 use Rattle.bench.specs.Answer.{cleared}
 
 -- the report of a plan of which no pick has been taken
@@ -16,7 +15,7 @@ start_report p = report (setup_of p) (start (setup_of p))
 abbrev pub reports_start : ℕ → List ℕ → List ℕ → Plan → Outcome
 reports_start limit store output p =
     record {
-      answer = Reports 0 (length (start_report p));
+      answer = reports 0 (length (start_report p));
       store = cleared store;
       output = start_report p ++ drop (length (start_report p)) output;
     }

@@ -1,18 +1,18 @@
 -- What a run tells, by the paper's number and the values that go with it: `told` of each answer, `told_of` of a text.
-use Rattle.std.specs.Prelude.{ℕ, cond, List, [], ◌∷◌, length}
+use Rattle.std.specs.Prelude.{Result, Ok, Err, ℕ, cond, List, [], ◌∷◌, length}
 use Rattle.std.proofs.Math.Dec.{ltb}
+use Rattle.refusals.specs.declared.Refused.{Refused}
 use Rattle.plan.specs.Reading.{Reading, accepted, refused, reading, is_too_long}
 use Rattle.reader.specs.Verdict.{Told, told_refusal}
 use Rattle.orders.specs.Reached.{reached}
-use Rattle.play.specs.declared.Answer.{Answer}
-use Rattle.play.specs.declared.Answer.TheVariants.{Reports, Refuses}
+use Rattle.play.specs.declared.Ran.{Ran}
 use Rattle.play.specs.Outcome.{report_of}
 use Rattle.bench.specs.Answer.{store_size}
 
 -- 0, the picks taken and the report's length; or a refusal
-abbrev pub told : Answer → Told
-told (Reports picks length) = record { number = 0; values = picks ∷ length ∷ [] }
-told (Refuses r line) = told_refusal r line
+abbrev pub told : Result Ran Refused → Told
+told (Ok ran) = record { number = 0; values = ran.picks ∷ ran.length ∷ [] }
+told (Err x) = told_refusal x.refusal x.line
 
 -- a refusal that the caller causes has line 0
 abbrev callers : ℕ → Told

@@ -5,17 +5,17 @@ ghost use Rattle.tools.specs.Result.{printed};
 ghost use Rattle.tools.specs.Printing.{Front};
 ghost use Rattle.bench_check.specs.Checking.{accepted_fields, checking};
 
-use reader::Checked;
-use refusals::put_refusal;
-use text::number::put_number;
-use text::write::put_field;
+use text::write::Writer;
+use tools::show;
 
 // Writes the line of an accepted plan, as far as the array reaches; it has at most 23 bytes.
 fn put_accepted(looks: u64, out: &mut [u8]) -> usize
     ensures { Wrote out.old 0 (fields (accepted_fields looks)) result out.new × (result ≤ 23) }
 {
-    let next = put_field(b"A", b'\t', out, 0);
-    put_number(looks, b'\n', out, next)
+    let mut to = Writer { out, at: 0 };
+    to.put_field(b"A", b'\t');
+    to.put_number(looks, b'\n');
+    to.at
 }
 
 // Puts it into the first bytes of an output; how many bytes it has.
@@ -24,9 +24,8 @@ pub(crate) fn answer(text: &[u8], output: &mut [u8]) -> usize
     ensures { Front result (printed (checking text.now)) output.old output.new }
 {
     let answer = reader::check(text);
-    let checked = answer.checked;
-    match checked {
-        Checked::Accepted => put_accepted(answer.looks, output),
-        Checked::Refused(refusal, line) => put_refusal(refusal, line, output, 0),
+    match answer.checked {
+        Ok(()) => put_accepted(answer.looks, output),
+        Err(refused) => show(Err(refused), output),
     }
 }

@@ -10,7 +10,6 @@ ghost use Rattle.bench_check.specs.Checking.{checking};
 use answer::answer;
 use std::io;
 use std::io::{Read, Write};
-use tools::read_into;
 
 mod answer; // answer.rt: what is printed for a text
 
@@ -20,11 +19,9 @@ fn serve<R: Read, W: Write>(input: &mut R, to: &mut W) -> io::Result<()>
 {
     // one byte more than a plan may have: of a longer text no more is needed, `cut_alike` in specs/Cut.antt of the crate tools
     let mut text = [0u8; 65537];
-    let size = read_into(input, &mut text)?;
     // no line is longer
     let mut output = [0u8; 26];
-    let length = answer(&text[..size], &mut output);
-    to.write_all(&output[..length])
+    tools::serve(input, &mut text, to, &mut output, answer)
 }
 
 fn main(rt: HostRuntime) -> io::Result<()> {

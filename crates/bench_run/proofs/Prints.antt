@@ -1,5 +1,5 @@
 -- What a run leaves in an output that is long enough is what is to be printed. Assumes nothing.
-use Prim.Native.Nat.{ℕ, ◌+◌, ◌-◌, ◌^◌, ◌≤◌, ◌<◌}
+use Prim.Native.Nat.{ℕ, ◌-◌, ◌^◌, ◌≤◌, ◌<◌}
 use mathlib.Core.Path.{◌≡◌, refl, ap, ◌∙◌}
 use mathlib.Core.Logic.{⊎_elim}
 use mathlib.Core.List.{List, ◌++◌}
@@ -8,7 +8,8 @@ use lib.ListN.{length, take, drop}
 use lib.Seq.{sets-eq}
 use borrow.Author.Tests.{le-ltb}
 use Rattle.runs.specs.Update.{order}
-use Rattle.refusals.specs.declared.Refusal.{Refusal}
+use Rattle.std.specs.Prelude.{Result, Ok, Err}
+use Rattle.refusals.specs.declared.Refused.{Refused}
 use Rattle.text.specs.Text.{line}
 use Rattle.plan.specs.Plan.{Plan}
 use Rattle.plan.specs.Reading.{Reading, accepted, refused, reading}
@@ -16,8 +17,7 @@ use Rattle.plan.specs.Lengths.{reading_long}
 use Rattle.refusals.specs.Number.{number}
 use Rattle.text.specs.Writing.{fields, Wrote}
 use Rattle.refusals.specs.Line.{refusal_fields}
-use Rattle.play.specs.declared.Answer.{Answer}
-use Rattle.play.specs.declared.Answer.TheVariants.{Reports, Refuses}
+use Rattle.play.specs.declared.Ran.{Ran}
 use Rattle.orders.specs.Reached.{reached}
 use Rattle.report.specs.Sizes.{longest}
 use Rattle.play.specs.Outcome.{Outcome, report_of, written}
@@ -30,9 +30,9 @@ abbrev no_limit : ℕ
 no_limit = 2 ^ 64 - 1
 
 -- an answer and the output after it, where these bytes are to be printed
-abbrev Prints : List ℕ → List ℕ → Answer → List ℕ → Type 0
-Prints bs output (Reports picks n) after = (n ≡ length bs) × (after ≡ bs ++ drop (length bs) output)
-Prints bs output (Refuses r n) after = (line (refusal_fields (number r) n) ≡ bs) × (after ≡ output)
+abbrev Prints : List ℕ → List ℕ → Result Ran Refused → List ℕ → Type 0
+Prints bs output (Ok ran) after = (ran.length ≡ length bs) × (after ≡ bs ++ drop (length bs) output)
+Prints bs output (Err x) after = (line (refusal_fields (number x.refusal) x.line) ≡ bs) × (after ≡ output)
 
 abbrev Outputs : List ℕ → List ℕ → Outcome → Type 0
 Outputs bs output o = Prints bs output o.answer o.output
@@ -57,7 +57,7 @@ module _ (store output text : List ℕ) where
       (played_prints (reading text) (λ p q. omega (arith, accepted_short text p q no_limit))))
       (order text_size (length text))
 
-module _ (store output text : List ℕ) (h : store_size ≤ length store) (k : longest ≤ length output) (a : Answer) (left after : List ℕ)
+module _ (store output text : List ℕ) (h : store_size ≤ length store) (k : longest ≤ length output) (a : Result Ran Refused) (left after : List ℕ)
     (e : record { answer = a; store = left; output = after } ≡ run no_limit store output text) where
   ended : Prints (printed text) output a after
   ended = rw (← e) at (run_prints store output text h k)
@@ -73,16 +73,16 @@ module _ (store output text : List ℕ) (h : store_size ≤ length store) (k : l
       let f = front n (printed text) output last p (q ∙ ap (λ (k : ℕ). printed text ++ drop k output) p) in
       (ap (λ (o : Outcome). o.store) e, ((f.within, f.whole), (f.bytes, f.later)))
 
-  pub reports : (picks n : ℕ) → a ≡ Reports picks n → Answered n after
-  reports picks n q =
-      let (x, y) : Prints (printed text) output (Reports picks n) after = rw q at ended in
-      answered n after x (rw x y)
+  pub reports : (ran : Ran) → a ≡ Ok ran → Answered ran.length after
+  reports ran q =
+      let (x, y) : Prints (printed text) output (Ok ran) after = rw q at ended in
+      answered ran.length after x (rw x y)
 
-  pub refuses : (r : Refusal) (n : ℕ) → a ≡ Refuses r n → (end : ℕ) (last : List ℕ)
-      → Wrote after 0 (fields (refusal_fields (number r) n)) end last
-      → end ≤ 0 + 26 → Answered end last
-  refuses r n q end last w short =
-      let (x, y) : Prints (printed text) output (Refuses r n) after = rw q at ended in
-      let bs = line (refusal_fields (number r) n) in
+  pub refuses : (x : Refused) → a ≡ Err x → (end : ℕ) (last : List ℕ)
+      → Wrote after 0 (fields (refusal_fields (number x.refusal) x.line)) end last
+      → end ≤ 26 → Answered end last
+  refuses f q end last w short =
+      let (x, y) : Prints (printed text) output (Err f) after = rw q at ended in
+      let bs = line (refusal_fields (number f.refusal) f.line) in
       let stored = w.stores ∙ sets-eq bs after 0 (omega (arith, w.place, ap length y)) in
       answered end last (omega (arith, w.place, ap length x)) (rw (w.place, ← x, ← y) stored)

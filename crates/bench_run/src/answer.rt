@@ -3,10 +3,9 @@ ghost use Rattle.std.specs.Prelude.{◌≡◌, ◌≤◌, ◌^◌, ◌-◌, leng
 ghost use Rattle.report.specs.Sizes.{longest};
 ghost use Rattle.bench.specs.Answer.{store_size, run, printed};
 
-use play::Answer;
-use refusals::put_refusal;
+use tools::show;
 
-const NO_LIMIT: u64 = 18446744073709551615;
+const NO_LIMIT: u64 = u64::MAX;
 
 // Puts it into the first bytes of an output, and leaves the store as a run does; how many bytes it has.
 pub(crate) fn answer(text: &[u8], store: &mut [u64], output: &mut [u8]) -> usize
@@ -18,7 +17,7 @@ pub(crate) fn answer(text: &[u8], store: &mut [u64], output: &mut [u8]) -> usize
 {
     let ran = bench::run(text, NO_LIMIT, store, output);
     match ran {
-        Answer::Reports { picks, length } => length,
-        Answer::Refuses(refusal, line) => put_refusal(refusal, line, output, 0),
+        Ok(ran) => ran.length,
+        Err(refused) => show(Err(refused), output),
     }
 }

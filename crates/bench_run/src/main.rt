@@ -9,7 +9,6 @@ ghost use Rattle.bench.specs.Answer.{printed};
 use answer::answer;
 use std::io;
 use std::io::{Read, Write};
-use tools::read_into;
 
 mod answer; // answer.rt: what is printed for a text
 
@@ -19,13 +18,17 @@ fn serve<R: Read, W: Write>(input: &mut R, to: &mut W) -> io::Result<()>
 {
     // one byte more than a plan may have: of a longer text no more is needed, `cut_alike` in specs/Cut.antt
     let mut text = [0u8; 65537];
-    let size = read_into(input, &mut text)?;
     // the store starts as zeros
     let mut store = [0; 8192];
     // no report is longer: `accepted_short` in specs/Short.antt of the crate play
     let mut output = [0u8; 14439];
-    let length = answer(&text[..size], &mut store, &mut output);
-    to.write_all(&output[..length])
+    tools::serve(
+        input,
+        &mut text,
+        to,
+        &mut output,
+        |text, output| answer(text, &mut store, output),
+    )
 }
 
 fn main(rt: HostRuntime) -> io::Result<()> {

@@ -2,17 +2,23 @@
 
 #![tactic(auto)]
 
-ghost use Rattle.std.specs.Prelude.{OnOk, IfSome};
+ghost use Rattle.std.specs.Prelude.{◌≤◌, length, OnOk, IfSome};
 ghost use Rattle.std.specs.Io.KnownBytes.{Appends};
 ghost use Rattle.tools.specs.Result.{printed};
+ghost use Rattle.tools.specs.Printing.{Front};
 ghost use Rattle.convert.specs.Convert.{to_first};
 
-use answer::answer;
 use std::io;
 use std::io::{Read, Write};
-use tools::read_into;
+use tools::show;
 
-mod answer; // answer.rt: what is printed for a text
+// Puts what is printed for a text into the first bytes of an output; how many bytes it has.
+fn answer(text: &[u8], output: &mut [u8]) -> usize
+    requires { 65536 ≤ length output.old }
+    ensures { Front result (printed (to_first text.now)) output.old output.new }
+{
+    show(convert::to_first(text, output), output)
+}
 
 // From an input to what is printed for the whole of it.
 fn serve<R: Read, W: Write>(input: &mut R, to: &mut W) -> io::Result<()>
@@ -20,11 +26,9 @@ fn serve<R: Read, W: Write>(input: &mut R, to: &mut W) -> io::Result<()>
 {
     // one byte more than a plan may have: of a longer text no more is needed, `cut_alike` in specs/Cut.antt of the crate tools
     let mut text = [0u8; 65537];
-    let size = read_into(input, &mut text)?;
     // no result is longer
     let mut output = [0u8; 65536];
-    let length = answer(&text[..size], &mut output);
-    to.write_all(&output[..length])
+    tools::serve(input, &mut text, to, &mut output, answer)
 }
 
 fn main(rt: HostRuntime) -> io::Result<()> {

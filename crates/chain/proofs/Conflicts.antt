@@ -1,75 +1,41 @@
--- Accesses that meet, and a search for one among a task's. Assumes nothing.
-use Prim.Native.Nat.{ℕ, ◌+◌, ◌≤◌, ◌<◌}
-use mathlib.Core.Path.{◌≡◌, refl, sym, ap, ◌∙◌}
-use native.Mathlib.Omega.{arith}
-use mathlib.Core.Logic.{◌≢◌}
-use mathlib.Core.Bool.{Bool, true, false, not}
-use mathlib.Core.List.{List}
-use lib.ListN.{length, take, get_or}
-use lib.Seq.{take_all}
-use lib.Dec.{eqb}
-use borrow.Author.Tests.{eq-eqb, ne_eqb}
+-- A task's accesses in its row, and a search for two that meet. Assumes nothing.
+use Rattle.std.specs.Prelude.{ℕ, suc, ◌<◌, ◌≡◌, refl, Bool, true, false, not, List, [], ◌∷◌, length, take, get_or}
+use Rattle.std.specs.List.{list_any}
+use Rattle.std.proofs.Common.{sym, ap, ◌∙◌, arith}
+use Rattle.runs.specs.Tests.{ways}
 use Rattle.runs.specs.Update.{clash}
-use Rattle.runs.specs.Every.{every, every_more, every_fails}
-use Rattle.plan.specs.Plan.{Access}
-use Rattle.plan.specs.PassFields.{bit}
-use Rattle.plan.specs.Chains.{meet}
-use Rattle.kept.specs.declared.tasks.Touch.{Touch}
-use Rattle.kept.specs.Tasks.{touch_of}
+use Rattle.runs.specs.Every.{every}
+use Rattle.plan.specs.Plan.{Task}
+use Rattle.plan.specs.declared.access.Access.{Access}
+use Rattle.plan.specs.Line.{access}
+use Rattle.plan.specs.Chains.{meet, conflict}
 
--- 1 stands for a writer
-is_writer : (b : Bool) → bit b ≡ 1 → b ≡ true
-is_writer true e = refl
-is_writer false e = clash (cc)
+-- all fail, or else one passes
+none_passes : {A : Type 0} (fails passes : A → Bool) → ((x : A) → fails x ≡ not (passes x)) → (xs : List A)
+    → every fails xs ≡ not (list_any passes xs)
+unfolding every
+none_passes fails passes e [] = refl
+none_passes fails passes e (x ∷ xs) =
+    ways (passes x) (λ p. simp (e x, p)) (λ p. simp (e x, p) (none_passes fails passes e xs))
 
-is_reader : (b : Bool) → bit b ≢ 1 → b ≡ false
-is_reader true n = absurd (n refl)
-is_reader false n = refl
+not_not : (b : Bool) → not (not b) ≡ b
+not_not true = refl
+not_not false = refl
 
-bit_tested : (b : Bool) → eqb (bit b) 1 ≡ b
-bit_tested true = refl
-bit_tested false = refl
+pub conflict_any : (t u : Task) → list_any (λ x. list_any (meet x) u.accesses) t.accesses ≡ conflict t u
+unfolding conflict
+conflict_any t u =
+    sym (not_not (list_any (λ x. list_any (meet x) u.accesses) t.accesses))
+    ∙ ap not (sym (none_passes _ _ (λ x. none_passes (λ y. not (meet x y)) (meet x) (λ y. refl) u.accesses) t.accesses))
 
-module _ (a b : Touch) (x y : Access) (p : a ≡ touch_of x) (q : b ≡ touch_of y) where
-  one_address : a.address ≡ b.address → x.address ≡ y.address
-  one_address e = sym (ap (λ (t : Touch). t.address) p) ∙ e ∙ ap (λ (t : Touch). t.address) q
-
-  pub meet_first : a.address ≡ b.address → a.writes ≡ 1 → true ≡ meet x y
-  meet_first e w =
-      rw (eq-eqb _ _ (one_address e), is_writer x.writes (sym (ap (λ (t : Touch). t.writes) p) ∙ w)) refl
-
-  pub meet_second : a.address ≡ b.address → a.writes ≢ 1 → eqb b.writes 1 ≡ meet x y
-  meet_second e w =
-      rw (
-        eq-eqb _ _ (one_address e),
-        is_reader x.writes (λ z. w (ap (λ (t : Touch). t.writes) p ∙ z)),
-        ap (λ (t : Touch). t.writes) q,
-        bit_tested y.writes,
-      )
-      refl
-
-  pub meet_apart : a.address ≢ b.address → false ≡ meet x y
-  meet_apart n =
-      rw (ne_eqb x.address y.address (λ z. n (ap (λ (t : Touch). t.address) p ∙ z ∙ sym (ap (λ (t : Touch). t.address) q)))) refl
-
--- ---- a search for what fails a test, from the front
-
-pub fails : (b r : Bool) → r ≡ not b → r ≡ true → b ≡ false
-fails true r e f = clash (cc)
-fails false r e f = refl
-
-pub passes : (b r : Bool) → r ≡ not b → r ≡ false → b ≡ true
-passes true r e f = refl
-passes false r e f = clash (cc)
-
-module _ {A : Type 0} (test : A → Bool) (xs : List A) (k : ℕ) (d : A) where
-  pub search_found : k < length xs → test (get_or xs k d) ≡ false → true ≡ not (every test xs)
-  search_found l e =
-      let failed = every_fails test xs k (length xs) d l l e in
-      rw (sym (ap (every test) (take_all (length xs) xs (omega arith))) ∙ failed) refl
-
-  pub search_on : k < length xs → test (get_or xs k d) ≡ true → every test (take k xs) ≡ true → every test (take (k + 1) xs) ≡ true
-  search_on l e h = every_more test xs k d l h e
-
-  pub search_none : length xs ≤ k → every test (take k xs) ≡ true → false ≡ not (every test xs)
-  search_none l h = rw (sym (ap (every test) (take_all k xs l)) ∙ h) refl
+-- accesses of which the first are others, place by place, whatever stands for one that is not there: so they are there
+pub front_same : (xs ys : List Access) → ((k : ℕ) → k < length ys → (d : Access) → get_or xs k d ≡ get_or ys k d) → take (length ys) xs ≡ ys
+front_same [] [] e = refl
+front_same [] (y ∷ ys) e =
+    let zero : access false 0 ≡ y = e 0 (omega arith) (access false 0) in
+    let one : access false 1 ≡ y = e 0 (omega arith) (access false 1) in
+    clash (ap (λ (a : Access). a.address) (zero ∙ sym one))
+front_same (x ∷ xs) [] e = refl
+front_same (x ∷ xs) (y ∷ ys) e =
+    let first : x ≡ y = e 0 (omega arith) y in
+    rw first (ap (λ zs. y ∷ zs) (front_same xs ys (λ k b d. e (suc k) (omega arith) d)))

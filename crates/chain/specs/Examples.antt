@@ -4,7 +4,8 @@ use Rattle.std.proofs.Math.Option.{none}
 use Rattle.refusals.specs.declared.Refusal.TheVariants.{AddressTwice}
 use Rattle.runs.specs.Every.{every}
 use Rattle.text.specs.Text.{bytes, all_of, split, value_after, number_of, digits_before, decimal, line}
-use Rattle.plan.specs.Plan.{Access, Task, mask_last}
+use Rattle.plan.specs.Plan.{Task, mask_last}
+use Rattle.plan.specs.declared.access.Access.{Access}
 use Rattle.plan.specs.Chains.{conflict, chain_cost}
 use Rattle.plan.specs.Line.{repeats, ends_unmasked, access_of, line_by, line_of_fields}
 use Rattle.plan.specs.Reading.{first_refusal, read_lines, reading}

@@ -8,7 +8,7 @@ ghost use Rattle.tools.specs.Numbers.{numbers};
 ghost use Rattle.tools.specs.Result.{written};
 ghost use Rattle.chain.specs.Longest.{chain_of};
 
-use tools::{AnswerC, in_numbers};
+use tools::AnswerC;
 
 // Writes the longest chain of a plan's text.
 #[unsafe(no_mangle)]
@@ -16,5 +16,5 @@ pub extern "C" fn salfunye_chain(text: &[u8], output: &mut [u8]) -> AnswerC
     ensures answer { result ≡ numbers (written output.old (chain_of text.now)).answer }
     ensures output { output.new ≡ (written output.old (chain_of text.now)).output }
 {
-    in_numbers(chain::longest_chain(text, output))
+    AnswerC::from(chain::longest_chain(text, output))
 }

@@ -6,7 +6,9 @@ use Rattle.std.proofs.Common.{eqb-true}
 use Rattle.text.specs.Text.{bytes, all_of, number_of, decimal}
 use Rattle.text.specs.Numerals.{decimal_number}
 use Rattle.plan.specs.declared.form.Form.TheVariants.{First, Second}
-use Rattle.plan.specs.Plan.{Access, picks, rounds, seeded, Plan}
+use Rattle.plan.specs.Plan.{Plan}
+use Rattle.plan.specs.declared.access.Access.{Access}
+use Rattle.plan.specs.declared.order.Order.TheVariants.{Picks as picks, Rounds as rounds, Seeded as seeded}
 use Rattle.plan.specs.Line.{'M', 'P', 'R', 'S', 'T', 'W', Line, is_label, access_of}
 use Rattle.plan.specs.Line.{workers_line, task_line, mask_line, picks_line, rounds_line, seeded_line}
 use Rattle.plan.specs.Line.{one_number, with_both, two_numbers, in_form, with_cost, label_and_cost, line_by, line_of_fields}

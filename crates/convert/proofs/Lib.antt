@@ -1,4 +1,3 @@
-pub mod Forms
 pub mod Rewriting
 pub mod Answering
 pub mod FirstLine

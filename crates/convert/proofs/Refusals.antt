@@ -1,9 +1,11 @@
 -- When exactly the converters give the refusals 6, 8 and 10.
-use Rattle.std.specs.Prelude.{ℕ, ◌+◌, ◌≤◌, ◌<◌, ◌≡◌, refl, true, false, List, ◌⊎◌, ◌↔◌, length}
+use Rattle.std.specs.Prelude as rust
+use Rattle.std.specs.Prelude.{ℕ, Ok, Err, ◌+◌, ◌≤◌, ◌<◌, ◌≡◌, refl, true, false, List, ◌⊎◌, ◌↔◌, length}
 use Rattle.std.proofs.Common.{sym, ◌∙◌, inl, inr, ⊎_elim, arith, ltb-true, eq-eqb}
 use Rattle.std.proofs.Math.Path.{ap}
 use Rattle.refusals.specs.declared.Refusal.{Refusal}
 use Rattle.refusals.specs.declared.Refusal.TheVariants.{TextTooLong, OutputTooShort, TooFewSlots, OtherSizes, EmptyMask}
+use Rattle.refusals.specs.declared.Refused.{Refused}
 use Rattle.refusals.specs.Number.{number}
 use Rattle.runs.specs.Tests.{ways}
 use Rattle.runs.specs.Update.{order, clash}
@@ -15,7 +17,7 @@ use Rattle.plan.specs.Lengths.{reading_long}
 use Rattle.plan.proofs.Accepted.{accepted_length}
 use Rattle.plan.specs.Refused.{ByAuthor}
 use Rattle.plan.proofs.Refused.{refused_by}
-use Rattle.tools.specs.declared.Answer.TheVariants.{Writes, Refuses}
+use Rattle.reader.specs.Verdict.{refused_at}
 use Rattle.tools.specs.Result.{Result, result, refusal, of_plan, plan_text, Outcome, written}
 use Rattle.tools.specs.Written.{text_long, written_short, written_whole}
 use Rattle.convert.specs.Convert.{rewritten, spelled_out, has_first_sizes, in_second, in_first, to_second, to_first}
@@ -163,22 +165,25 @@ module _ (text : List ℕ) (n : ℕ) where
 
 -- ---- 8, line 0, last: there is a result, and the output is shorter
 
+-- one answer has one refusal
+same_refused : {f g : Refused} (a : rust.Result ℕ Refused) → a ≡ Err f → a ≡ Err g → f ≡ g
+same_refused {f} {g} a e h = let same : Err f ≡ Err g = sym e ∙ h in cc
+
 short_8 : (x : Result) → ((k : ℕ) → x ≡ refusal OutputTooShort k → ⊥) → (output : List ℕ) (n : ℕ)
-    → ((written output x).answer ≡ Refuses OutputTooShort n)
+    → ((written output x).answer ≡ refused_at OutputTooShort n)
     ↔ ((n ≡ 0) × ((moved : List ℕ) × (x ≡ result moved) × (length output < length moved)))
 unfolding written
 short_8 (refusal r k) never output n = (
-  λ q. absurd (never k (let is : r ≡ OutputTooShort = cc in rw is)),
+  λ q. absurd (never k (ap (λ f. refusal f.refusal k) (same_refused _ refl q))),
   λ (line, (moved, is, short)). clash (cc),
 )
 short_8 (result bs) never output n = (
   λ q. ⊎_elim
       (λ (l : length output < length bs).
-      let at_0 : Refuses OutputTooShort n ≡ Refuses OutputTooShort 0 =
-      sym q ∙ ap (λ (o : Outcome). o.answer) (written_short output bs l) in
-      (cc, (bs, refl, l)))
+      let at_0 = ap (λ (o : Outcome). o.answer) (written_short output bs l) in
+      (ap (λ f. f.line) (same_refused _ q at_0), (bs, refl, l)))
       (λ (l : length bs ≤ length output).
-      let whole : Refuses OutputTooShort n ≡ Writes (length bs) = sym q ∙ ap (λ (o : Outcome). o.answer) (written_whole output bs l) in
+      let whole : refused_at OutputTooShort n ≡ Ok (length bs) = sym q ∙ ap (λ (o : Outcome). o.answer) (written_whole output bs l) in
       clash (cc))
       (order (length output) (length bs)),
   λ (line, (moved, is, short)).
@@ -187,12 +192,12 @@ short_8 (result bs) never output n = (
 )
 
 module _ (output text : List ℕ) (n : ℕ) where
-  pub second_8 : ((written output (to_second text)).answer ≡ Refuses OutputTooShort n)
+  pub second_8 : ((written output (to_second text)).answer ≡ refused_at OutputTooShort n)
       ↔ ((n ≡ 0) × ((moved : List ℕ) × (to_second text ≡ result moved) × (length output < length moved)))
   second_8 =
       short_8 (to_second text) (λ k q. second_refused text OutputTooShort k q (unread_8 text k) (λ p e h. clash (cc h.0))) output n
 
-  pub first_8 : ((written output (to_first text)).answer ≡ Refuses OutputTooShort n)
+  pub first_8 : ((written output (to_first text)).answer ≡ refused_at OutputTooShort n)
       ↔ ((n ≡ 0) × ((moved : List ℕ) × (to_first text ≡ result moved) × (length output < length moved)))
   first_8 =
       short_8 (to_first text) (λ k q. first_refused text OutputTooShort k q (unread_8 text k) (λ p e h. clash (cc h.0))) output n

@@ -13,7 +13,9 @@ use Rattle.text.proofs.FieldLaws.{some_part}
 use Rattle.text.specs.Numerals.{number_decimal, decimal_digits}
 use Rattle.plan.specs.declared.form.Form.{Form}
 use Rattle.plan.specs.declared.form.Form.TheVariants.{First, Second}
-use Rattle.plan.specs.Plan.{Task, Order, picks, rounds, seeded, slots_of, Plan, empty_plan, with_workers, mask_last}
+use Rattle.plan.specs.Plan.{Task, slots_of, Plan, empty_plan, with_workers, mask_last}
+use Rattle.plan.specs.declared.order.Order.{Order}
+use Rattle.plan.specs.declared.order.Order.TheVariants.{Picks as picks, Rounds as rounds, Seeded as seeded}
 use Rattle.plan.specs.Line.{Line, ends_unmasked, workers_line, task_line, mask_line, picks_line, rounds_line, seeded_line}
 use Rattle.plan.specs.Line.{sizes_in_range, in_form, line_by, line_of_fields, line_of}
 use Rattle.plan.specs.Reading.{Reading, accepted, refused, first_refusal, read_line, read_lines, is_too_long, reading}

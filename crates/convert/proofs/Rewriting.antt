@@ -1,4 +1,5 @@
 -- A text with another W line, written into an output: by its length, and by that of the output. Assumes nothing.
+use Rattle.std.specs.Prelude.{Ok}
 use Prim.Native.Nat.{ℕ, ◌+◌, ◌-◌, ◌≤◌, ◌<◌}
 use mathlib.Core.Path.{◌≡◌, sym, ap, ◌∙◌}
 use mathlib.Core.List.{List, ◌++◌}
@@ -10,7 +11,7 @@ use Rattle.text.specs.Text.{line}
 use Rattle.text.specs.Writing.{plain, fields, Wrote}
 use Rattle.text.specs.WritingLaws.{wrote_then, wrote_whole}
 use Rattle.plan.specs.declared.form.Form.{Form}
-use Rattle.tools.specs.declared.Answer.TheVariants.{Writes, Refuses}
+use Rattle.reader.specs.Verdict.{refused_at}
 use Rattle.tools.specs.Result.{result, plan_text, outcome, written}
 use Rattle.tools.specs.Written.{text_long, text_whole, written_short, written_whole}
 use Rattle.convert.specs.Convert.{after_line, workers_fields}
@@ -44,7 +45,7 @@ module _ (text : List ℕ) (workers : ℕ) (own : Form) (e : line (workers_field
     length_is : n + length part ≡ length (line fs ++ rest)
     length_is = omega (arith, ap length part_is, length-append (line fs) rest)
 
-    pub too_long : 65536 < n + length part → outcome (Refuses TextTooLong 0) output ≡ written output (plan_text (line fs ++ rest))
+    pub too_long : 65536 < n + length part → outcome (refused_at TextTooLong 0) output ≡ written output (plan_text (line fs ++ rest))
     unfolding written
     too_long l = sym (ap (written output) (text_long (line fs ++ rest) (omega (arith, length_is))))
 
@@ -53,15 +54,15 @@ module _ (text : List ℕ) (workers : ℕ) (own : Form) (e : line (workers_field
       is_text = ap (written output) (text_whole (line fs ++ rest) (omega (arith, length_is)))
 
       pub too_short : length output < n + length part
-          → outcome (Refuses OutputTooShort 0) output ≡ written output (plan_text (line fs ++ rest))
+          → outcome (refused_at OutputTooShort 0) output ≡ written output (plan_text (line fs ++ rest))
       too_short l = sym (is_text ∙ written_short output (line fs ++ rest) (omega (arith, length_is)))
 
       pub whole : n + length part ≤ length output → {next end : ℕ} {mid after : List ℕ} → Wrote output 0 (fields fs) next mid
           → Wrote mid next (plain part) end after
-          → outcome (Writes (n + length part)) after ≡ written output (plan_text (line fs ++ rest))
+          → outcome (Ok (n + length part)) after ≡ written output (plan_text (line fs ++ rest))
       whole room {after = after} first later =
           let enough : length (line fs ++ rest) ≤ length output = omega (arith, length_is) in
           let wrote : Wrote output 0 (plain (line fs ++ rest)) _ after =
           wrote_then first (ap (λ (l : List ℕ). line fs ++ l) (sym part_is)) later in
-          (λ i. outcome (Writes (length_is i)) (wrote_whole wrote enough i))
+          (λ i. outcome (Ok (length_is i)) (wrote_whole wrote enough i))
           ∙ sym (is_text ∙ written_whole output (line fs ++ rest) enough)

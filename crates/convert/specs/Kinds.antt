@@ -2,7 +2,9 @@
 use Rattle.std.specs.Prelude.{ℕ, ◌≡◌, List}
 use Rattle.std.proofs.Math.Option.{Option, none, some}
 use Rattle.plan.specs.declared.form.Form.{Form}
-use Rattle.plan.specs.Plan.{Task, Order, picks, rounds, seeded, Plan}
+use Rattle.plan.specs.Plan.{Task, Plan}
+use Rattle.plan.specs.declared.order.Order.{Order}
+use Rattle.plan.specs.declared.order.Order.TheVariants.{Picks as picks, Rounds as rounds, Seeded as seeded}
 use Rattle.plan.specs.Line.{Line}
 use Rattle.plan.specs.Line.{workers_line, task_line, mask_line, picks_line, rounds_line, seeded_line}
 use Rattle.convert.specs.Convert.{workers_fields}

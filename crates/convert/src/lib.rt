@@ -2,21 +2,18 @@
 
 #![tactic(auto)]
 
-ghost use Rattle.std.specs.Prelude.{◌≡◌, ◌++◌, ◌≤◌, length};
+ghost use Rattle.std.specs.Prelude.{◌≡◌, ◌+◌, ◌^◌, ◌<◌, ◌++◌, ◌≤◌, length};
 ghost use Rattle.text.specs.Text.{line};
-ghost use Rattle.text.specs.Writing.{fields, Wrote};
+ghost use Rattle.text.specs.Writing.{fields};
+ghost use Rattle.text.specs.Writers.{Writes};
 ghost use Rattle.tools.specs.Result.{plan_text, outcome, written};
 ghost use Rattle.tools.specs.Told.{told, told_of};
 ghost use Rattle.convert.specs.Convert.{after_line, workers_fields, spelled_out, has_first_sizes, to_second, to_first};
 
 use plan::form::{Form, capacity_of, slots_of};
-use reader::Checked;
-use refusals::Refusal;
-use text::number::put_number;
-use text::write::{put_bytes, put_field};
-use tools::Answer;
-
-const TEXT_SIZE: usize = 65536;
+use refusals::{Refusal, Refused};
+use text::write::Writer;
+use tools::TEXT_SIZE;
 
 const FIRST_LINE: u64 = 1;
 
@@ -34,24 +31,22 @@ fn spelled_out(form: Form) -> Form
 fn has_first_sizes(form: Form) -> bool
     ensures { result ≡ has_first_sizes form }
 {
-    if slots_of(form) == slots_of(Form::First) {
-        return capacity_of(form) == capacity_of(Form::First);
-    }
-    false
+    slots_of(form) == slots_of(Form::First) && capacity_of(form) == capacity_of(Form::First)
 }
 
-// Writes a W line at the front of an array, as far as it reaches; how many bytes it has.
-fn put_workers(workers: u64, form: Form, out: &mut [u8]) -> usize
-    ensures short { result ≤ 65 }
-    ensures wrote { Wrote out.old 0 (fields (workers_fields workers form)) result out.new }
+// Writes a W line; it has at most 65 bytes.
+fn put_workers(workers: u64, form: Form, to: &mut Writer)
+    requires { to.old.at + 65 < 2 ^ 64 }
+    ensures short { to.new.at ≤ to.old.at + 65 }
+    ensures wrote { Writes to.old (fields (workers_fields workers form)) to.new }
 {
-    let next = put_field(b"W", b'\t', out, 0);
+    to.put_field(b"W", b'\t');
     match form {
-        Form::First => put_number(workers, b'\n', out, next),
+        Form::First => to.put_number(workers, b'\n'),
         Form::Second { slots, capacity } => {
-            let next = put_number(workers, b'\t', out, next);
-            let next = put_number(slots, b'\t', out, next);
-            put_number(capacity, b'\n', out, next)
+            to.put_number(workers, b'\t');
+            to.put_number(slots, b'\t');
+            to.put_number(capacity, b'\n');
         }
     }
 }
@@ -60,12 +55,22 @@ fn put_workers(workers: u64, form: Form, out: &mut [u8]) -> usize
 fn workers_size(workers: u64, form: Form) -> usize
     ensures { (result ≡ length (line (workers_fields workers form))) × (result ≤ 65) }
 {
-    let mut none = [0u8; 1];
-    put_workers(workers, form, &mut none[..0])
+    let mut to = Writer {
+        out: &mut [],
+        at: 0,
+    };
+    put_workers(workers, form, &mut to);
+    to.at
 }
 
 // Writes a plan's text with the W line of another form in the place of its own.
-fn rewrite(text: &[u8], workers: u64, own: Form, wanted: Form, output: &mut [u8]) -> Answer
+fn rewrite(
+    text: &[u8],
+    workers: u64,
+    own: Form,
+    wanted: Form,
+    output: &mut [u8],
+) -> Result<usize, Refused>
     requires { (length text.now ≤ 65536) × (line (workers_fields workers own) ++ after_line text.now ≡ text.now) }
     ensures { outcome result output.new
         ≡ written output.old (plan_text (line (workers_fields workers wanted) ++ after_line text.now)) }
@@ -73,47 +78,49 @@ fn rewrite(text: &[u8], workers: u64, own: Form, wanted: Form, output: &mut [u8]
     let rest = &text[workers_size(workers, own)..];
     let length = workers_size(workers, wanted) + rest.len();
     if TEXT_SIZE < length {
-        return Answer::Refuses(Refusal::TextTooLong, 0);
+        return Err(Refused {
+            refusal: Refusal::TextTooLong,
+            line: 0,
+        });
     }
     if output.len() < length {
-        return Answer::Refuses(Refusal::OutputTooShort, 0);
+        return Err(Refused {
+            refusal: Refusal::OutputTooShort,
+            line: 0,
+        });
     }
-    let next = put_workers(workers, wanted, output);
-    put_bytes(rest, output, next);
-    Answer::Writes(length)
+    let mut to = Writer { out: output, at: 0 };
+    put_workers(workers, wanted, &mut to);
+    to.put_bytes(rest);
+    Ok(length)
 }
 
 // Writes a plan's text in the second form.
-pub fn to_second(text: &[u8], output: &mut [u8]) -> Answer
+pub fn to_second(text: &[u8], output: &mut [u8]) -> Result<usize, Refused>
     ensures outcome { outcome result output.new ≡ written output.old (to_second text.now) }
     ensures told { told result ≡ told_of output.old (to_second text.now) }
 {
-    let read = reader::outline(text);
-    let checked = read.checked;
-    match checked {
-        Checked::Refused(refusal, line) => Answer::Refuses(refusal, line),
-        Checked::Accepted => {
-            let form = read.form;
-            rewrite(text, read.workers, form, spelled_out(form), output)
-        }
-    }
+    let plan = reader::outline(text).plan?;
+    rewrite(
+        text,
+        plan.workers,
+        plan.form,
+        spelled_out(plan.form),
+        output,
+    )
 }
 
 // Takes a plan's text back to the first form.
-pub fn to_first(text: &[u8], output: &mut [u8]) -> Answer
+pub fn to_first(text: &[u8], output: &mut [u8]) -> Result<usize, Refused>
     ensures outcome { outcome result output.new ≡ written output.old (to_first text.now) }
     ensures told { told result ≡ told_of output.old (to_first text.now) }
 {
-    let read = reader::outline(text);
-    let checked = read.checked;
-    match checked {
-        Checked::Refused(refusal, line) => Answer::Refuses(refusal, line),
-        Checked::Accepted => {
-            let form = read.form;
-            if has_first_sizes(form) {
-                return rewrite(text, read.workers, form, Form::First, output);
-            }
-            Answer::Refuses(Refusal::OtherSizes, FIRST_LINE)
-        }
+    let plan = reader::outline(text).plan?;
+    if !has_first_sizes(plan.form) {
+        return Err(Refused {
+            refusal: Refusal::OtherSizes,
+            line: FIRST_LINE,
+        });
     }
+    rewrite(text, plan.workers, plan.form, Form::First, output)
 }

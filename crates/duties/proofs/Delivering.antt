@@ -1,27 +1,31 @@
 -- What a delivery does in the memory: a task's count that falls, the flags of an access, what is passed on and noticed.
-use Prim.Native.Nat.{ℕ, suc, ◌+◌, ◌-◌, ◌*◌, ◌%◌, ◌≤◌, ◌<◌}
+use Prim.Native.Nat.{ℕ, ◌+◌, ◌-◌, ◌*◌, ◌%◌, ◌≤◌, ◌<◌}
 use native.Mathlib.Omega.{arith}
-use mathlib.Core.Path.{◌≡◌, refl, sym, ◌∙◌}
+use mathlib.Core.Path.{◌≡◌, refl, sym, ap, ◌∙◌}
 use mathlib.Core.Bool.{Bool, true, false, ◌&&◌}
 use mathlib.Core.Logic.{⊎_elim, ◌≢◌}
 use mathlib.Core.List.{List, [], ◌∷◌, ◌++◌}
 use mathlib.Core.Option.{Option, none, some}
-use lib.ListN.{length, set, length-set}
+use Rattle.std.specs.Prelude.{Some, None}
+use Rattle.std.proofs.lemmas.Option.{none-some}
+use lib.ListN.{length, set}
 use lib.Dec.{eqb}
 use borrow.Author.Tests.{eqb-true, eq-eqb, ne_eqb, lt-ltb, le-ltb}
-use Rattle.runs.specs.Update.{order, upd, upd_same, upd_id}
+use Rattle.runs.specs.Update.{order, upd, upd_same, upd_other, upd_id}
 use Rattle.plan.specs.Plan.{Task}
 use Rattle.tasks.specs.Accesses.{reader, next}
 use Rattle.tasks.specs.Flags.{Flags, granting, flag_number, passes_read, passes_write, Once}
 use Rattle.tasks.specs.Tasks.{Tasks, Message, Stand, free, ready, with_adds, with_count, with_status}
 use Rattle.tasks.specs.History.{lowered, passed, notice_of}
 use Rattle.memory.specs.Layout as layout
-use Rattle.memory.specs.Codes.{Coded, letter, option_code}
+use Rattle.memory.specs.Codes.{Coded, letter, option_of}
 use Rattle.memory.specs.Memory.{notices}
-use Rattle.memory.specs.Rows.{task_number, TaskRows}
+use Rattle.memory.specs.Rows.{task_row, TaskRows, counted}
+use Rattle.memory.specs.declared.rows.TaskRow.{TaskRow}
+use Rattle.memory.specs.declared.rows.Status.TheVariants.{Ready}
 use Rattle.memory.specs.Shares.{Stored}
 use Rattle.duties.proofs.Flagging.{rights_of}
-use Rattle.memory.specs.RowLaws.{count_set, status_set}
+use Rattle.memory.specs.RowLaws.{row_set}
 
 -- ---- a task's count falls
 
@@ -51,46 +55,47 @@ module _ (s : Tasks) (w i x : ℕ) where
       (order x (s.count i))
 
 -- the rows of tasks after that
-module _ (ts : List Task) (rows : List ℕ) (s : Tasks) (w i x : ℕ) (long : length rows ≡ layout.task_rows) (small : i < layout.most_tasks)
-    (within : i < length ts)
+module _ (ts : List Task) (rows : List TaskRow) (s : Tasks) (w i x : ℕ) (fits : i < length rows) (within : i < length ts)
     (h : TaskRows ts rows s.count s.status s.runner s.receipt s.ending) where
-  stands : task_number rows i layout.count ≡ s.count i
-  stands = h.count i within
+  abbrev row : TaskRow
+  row = task_row rows i
 
-  pub rows_above : x < task_number rows i layout.count
-      → TaskRows ts (set rows (layout.task_row * i + layout.count) (task_number rows i layout.count - x)) (lowered s w i x).count
-      (lowered s w i x).status s.runner s.receipt s.ending
+  stands : row.count ≡ s.count i
+  stands = ap (λ (r : TaskRow). r.count) (h i within)
+
+  pub rows_above : x < row.count
+      → TaskRows ts (set rows i (counted row (row.count - x) row.status)) (lowered s w i x).count (lowered s w i x).status s.runner s.receipt
+      s.ending
   rows_above l =
-      rw (lowered_above s w i x (omega (arith, stands)), stands)
-      (count_set ts rows s.count s.status s.runner s.receipt s.ending h i (omega arith) (s.count i - x))
+      let n = s.count i - x in
+      rw (lowered_above s w i x (omega (arith, stands)))
+      (row_set ts rows s.count s.status s.runner s.receipt s.ending h i fits _ (upd s.count i n) s.status s.runner s.receipt s.ending
+      (λ b. rw (h i b, upd_same s.count i n)) (λ j d. rw (upd_other s.count i n j d)))
 
-  pub rows_none : task_number rows i layout.count ≡ 0
+  pub rows_none : row.count ≡ 0
       → TaskRows ts rows (lowered s w i x).count (lowered s w i x).status s.runner s.receipt s.ending
   rows_none z =
       let n : s.count i ≡ 0 = sym stands ∙ z in
       let e : s.count i - x ≡ s.count i = omega arith in
       rw (lowered_none s w i x n, e, upd_id s.count i) h
 
-  pub rows_out : 0 < task_number rows i layout.count → task_number rows i layout.count ≤ x
-      → TaskRows ts (set (set rows (layout.task_row * i + layout.count) 0) (layout.task_row * i + layout.status) layout.ready)
-      (lowered s w i x).count (lowered s w i x).status s.runner s.receipt s.ending
+  pub rows_out : 0 < row.count → row.count ≤ x
+      → TaskRows ts (set rows i (counted row 0 Ready)) (lowered s w i x).count (lowered s w i x).status s.runner s.receipt s.ending
   rows_out l b =
-      let first : TaskRows ts (set rows (layout.task_row * i + layout.count) 0) (upd s.count i 0) s.status s.runner s.receipt
-      s.ending =
-      count_set ts rows s.count s.status s.runner s.receipt s.ending h i (omega arith) 0 in
       rw (lowered_out s w i x (omega (arith, stands)) (omega (arith, stands)))
-      (status_set ts (set rows (layout.task_row * i + layout.count) 0) (upd s.count i 0) s.status s.runner s.receipt
-      s.ending first i (simp length-set (omega arith)) ready)
+      (row_set ts rows s.count s.status s.runner s.receipt s.ending h i fits _ (upd s.count i 0) (upd s.status i ready) s.runner s.receipt
+      s.ending (λ b. rw (h i b, upd_same s.count i 0, upd_same s.status i ready))
+      (λ j d. rw (upd_other s.count i 0 j d, upd_other s.status i ready j d)))
 
   -- and the worker's tasks to add
   module _ (own : List ℕ) (p : Stand) (mail : List Message) where
-    pub adds_above : x < task_number rows i layout.count → Stored own p mail (s.adds w) → Stored own p mail ((lowered s w i x).adds w)
+    pub adds_above : x < row.count → Stored own p mail (s.adds w) → Stored own p mail ((lowered s w i x).adds w)
     adds_above l k = rw (lowered_above s w i x (omega (arith, stands))) k
 
-    pub adds_none : task_number rows i layout.count ≡ 0 → Stored own p mail (s.adds w) → Stored own p mail ((lowered s w i x).adds w)
+    pub adds_none : row.count ≡ 0 → Stored own p mail (s.adds w) → Stored own p mail ((lowered s w i x).adds w)
     adds_none z k = rw (lowered_none s w i x (sym stands ∙ z)) k
 
-    pub adds_out : 0 < task_number rows i layout.count → task_number rows i layout.count ≤ x → Stored own p mail (s.adds w ++ i ∷ [])
+    pub adds_out : 0 < row.count → row.count ≤ x → Stored own p mail (s.adds w ++ i ∷ [])
         → Stored own p mail ((lowered s w i x).adds w)
     adds_out l b k = rw (lowered_out s w i x (omega (arith, stands)) (omega (arith, stands)), upd_same) k
 
@@ -126,20 +131,19 @@ module _ (ts : List Task) (a : ℕ) (e f : Flags) (q n : ℕ) (is_reader : q ≡
       go false x true y = refl
       go false x false y = refl
 
-  pub passed_one : n ≢ 0 → (m : Message) × (passed ts a e f ≡ m ∷ []) × (letter m ≡ record { to = next ts a; flags = n; sender = a + 1 })
+  pub passed_one : n ≢ 0 → (m : Message) × (passed ts a e f ≡ m ∷ []) × (letter m ≡ record { to = next ts a; flags = n; sender = Some a })
   passed_one d =
       let number : flag_number (granting reads writes) ≡ n = omega (arith, in_all) in
-      let one : suc a ≡ a + 1 = omega arith in
-      (message, passed_some d, rw (number, one) refl)
+      (message, passed_some d, rw number refl)
 
 -- ---- the notice after a delivery
 
 module _ (m : Message) where
-  pub notice_none : (o : Option ℕ) → 0 ≡ option_code o → notice_of m o ≡ free
+  pub notice_none : (o : Option ℕ) → None ≡ option_of o → notice_of m o ≡ free
   notice_none none z = refl
-  notice_none (some b) z = absurd (omega arith)
+  notice_none (some b) z = absurd (none-some b z)
 
-  pub notice_some : (o : Option ℕ) (n k : ℕ) → Once m.flags → k ≡ flag_number m.flags → n ≡ option_code o → n ≢ 0
-      → Coded layout.telling (n - 1) (k % 4) (notice_of m o) × (1 ≡ notices (notice_of m o))
-  notice_some none n k once is z d = absurd (d z)
-  notice_some (some b) n k once is z d = ((refl, omega arith, rights_of m.flags once k is), refl)
+  pub notice_some : (o : Option ℕ) (n k : ℕ) → Once m.flags → k ≡ flag_number m.flags → Some n ≡ option_of o
+      → Coded layout.telling n (k % 4) (notice_of m o) × (1 ≡ notices (notice_of m o))
+  notice_some none n k once is z = absurd (none-some n (sym z))
+  notice_some (some b) n k once is z = ((refl, cc, rights_of m.flags once k is), refl)

@@ -5,7 +5,7 @@ use mathlib.Core.Path.{◌≡◌, refl, sym, ap, ◌∙◌}
 use mathlib.Core.Logic.{◌≢◌}
 use mathlib.Core.List.{List, [], ◌∷◌, ◌++◌}
 use mathlib.Core.Option.{some}
-use lib.ListN.{length, get_or, set, length-set, length-append}
+use lib.ListN.{length, get_or, length-append}
 use Rattle.runs.specs.Update.{upd, upd_same, upd_other}
 use Rattle.runs.specs.Sums.{sum}
 use Rattle.runs.specs.Stores.{first_of}
@@ -15,8 +15,10 @@ use Rattle.tasks.specs.Tasks.{Tasks, Message, Stand, free, Status, ready, with_m
 use Rattle.tasks.specs.History as Th
 use Rattle.tasks.specs.History.{Op, Can, can_mind, can_deliver, minds, delivers, passed, lowered, notice_of}
 use Rattle.memory.specs.Layout as layout
-use Rattle.memory.specs.Codes.{letter, option_code}
-use Rattle.memory.specs.Rows.{task_number, access_number, TaskRows, AccessRows}
+use Rattle.memory.specs.Codes.{letter, reader_number, option_of}
+use Rattle.memory.specs.Rows.{task_row, access_row, TaskRows, AccessRows, flagged_rows}
+use Rattle.memory.specs.declared.rows.TaskRow.{TaskRow}
+use Rattle.memory.specs.declared.rows.AccessRow.{AccessRow}
 use Rattle.memory.specs.Shares.{Stored}
 use Rattle.memory.specs.Memory.{TaskMemory, memory, unfinished, notices, HoldsTasks, Able, HeldAfter, its_duty}
 use Rattle.memory.specs.ShareLaws.{adds_count_lem, mail_count_lem}
@@ -139,31 +141,25 @@ module _ {m : TaskMemory} {own : List ℕ} {w : ℕ} (able : Able m own w) where
       pub is_flags : flags ≡ flag_number d.message.flags
       is_flags = sym (ap (λ (l : Letter). l.flags) is)
 
-      pub is_sender : taken.sender ≡ option_code d.message.sender
+      pub is_sender : taken.sender ≡ option_of d.message.sender
       is_sender = sym (ap (λ (l : Letter). l.sender) is)
 
-      pub flags_fit : (length m.accesses ≡ layout.access_rows) × (to < layout.most_accesses)
-          × (access_number m.accesses to layout.flags < 64) × (flags < 64)
+      pub flags_fit : (to < length m.accesses) × ((access_row m.accesses to).flags < 64) × (flags < 64)
       flags_fit = (
-        able.long.accesses,
-        rw is_to access_few,
+        rw is_to (access_fits able.fit able.long access within),
         rw is_to (row_small able access within),
         number_small d.message.flags once
             flags is_flags,
       )
 
-      pub is_reader : access_number m.accesses to layout.reader ≡ kind
+      pub is_reader : reader_number (access_row m.accesses to).reader ≡ kind
       is_reader = rw is_to (able.holds.access_rows_lem.reader access within)
 
-      pub is_before : access_number m.accesses to layout.flags ≡ flag_number before
+      pub is_before : (access_row m.accesses to).flags ≡ flag_number before
       is_before = rw is_to (row_flags able access within)
 
       -- the rows of accesses after it
-      module _ (rows : List ℕ) (stored : rows ≡ set m.accesses (layout.access_row * to + layout.flags)
-          (access_number m.accesses to layout.flags + flags)) where
-        pub rows_long : length rows ≡ layout.access_rows
-        rows_long = ap length stored ∙ simp length-set able.long.accesses
-
+      module _ (rows : List AccessRow) (stored : rows ≡ flagged_rows m.accesses to ((access_row m.accesses to).flags + flags)) where
         pub rows_after : AccessRows able.ts rows (upd t.flags access after)
         rows_after =
             let number : flag_number before + flag_number d.message.flags ≡ flag_number after = omega arith in
@@ -171,10 +167,10 @@ module _ {m : TaskMemory} {own : List ℕ} {w : ℕ} (able : Able m own w) where
             (access_fits able.fit able.long access within) after in
             rw (stored, is_before, is_flags, is_to, number) held
 
-        pub is_next : access_number rows to layout.next ≡ next able.ts to
+        pub is_next : (access_row rows to).next ≡ next able.ts to
         is_next = rw is_to (rows_after.next access within)
 
-        pub is_task : access_number rows to layout.task ≡ task
+        pub is_task : (access_row rows to).task ≡ task
         is_task = rw is_to (rows_after.task access within)
 
     -- there is room for a message, where one is passed on
@@ -187,14 +183,14 @@ module _ {m : TaskMemory} {own : List ℕ} {w : ℕ} (able : Able m own w) where
 
     -- and for a task to add
     pub add_room_lem : (share : List ℕ) (x : Stand) (ms : List Message) → Stored share x ms (t.adds w)
-        → 0 < task_number m.rows task layout.count → task_number m.rows task layout.count ≤ falls
+        → 0 < (task_row m.rows task).count → (task_row m.rows task).count ≤ falls
         → get_or share layout.adds_count 0 < layout.add_room
     add_room_lem share x ms k any few =
-        let count = able.holds.task_rows_lem.count task task_below in
+        let count = ap (λ (r : TaskRow). r.count) (able.holds.task_rows_lem task task_below) in
         omega (arith, adds_count_lem k, adds_room (omega (arith, count)) (omega (arith, count)))
 
     -- the memory after it
-    module _ (accesses rows share : List ℕ) (posted noticed : ℕ) (is_posted : posted ≡ length (passed able.ts access before after))
+    module _ (accesses : List AccessRow) (rows : List TaskRow) (share : List ℕ) (posted noticed : ℕ) (is_posted : posted ≡ length (passed able.ts access before after))
         (is_noticed : noticed ≡ notices stands)
         (accesses_held : AccessRows able.ts accesses (upd t.flags access after)) where
       abbrev memory_after : TaskMemory

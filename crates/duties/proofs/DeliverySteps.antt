@@ -4,20 +4,22 @@ use native.Mathlib.Omega.{arith}
 use mathlib.Core.Path.{◌≡◌, sym, ap}
 use mathlib.Core.List.{List, ◌∷◌, ◌++◌}
 use mathlib.Core.Option.{some}
-use lib.ListN.{length, get_or, set, length-append}
+use Rattle.std.specs.Prelude.{Option as RustOption}
+use lib.ListN.{length, get_or, length-append}
 use Rattle.plan.specs.Plan.{Task}
 use Rattle.tasks.specs.Accesses as Accesses
 use Rattle.tasks.specs.Flags.{Flags, flag_number, with, passes_read, passes_write, satisfied, Once}
 use Rattle.tasks.specs.Tasks.{Tasks, Message, Stand, free}
 use Rattle.tasks.specs.History.{Op, passed, lowered, notice_of}
 use Rattle.memory.specs.Layout as layout
-use Rattle.memory.specs.Codes.{letter, option_code}
-use Rattle.memory.specs.Rows.{task_number, access_number, TaskRows}
+use Rattle.memory.specs.Codes.{letter, reader_number, option_of}
+use Rattle.memory.specs.Rows.{task_row, access_row, TaskRows, flagged_rows}
+use Rattle.memory.specs.declared.rows.TaskRow.{TaskRow}
+use Rattle.memory.specs.declared.rows.AccessRow.{AccessRow}
 use Rattle.memory.specs.Shares.{Stored}
 use Rattle.memory.specs.Memory.{TaskMemory, memory, notices, Able, HeldAfter, its_duty}
 use Rattle.memory.specs.declared.share.Letter.{Letter}
-use Rattle.tasks.proofs.Promise.{reader_one}
-use Rattle.duties.proofs.Given.{notices_one, most_pending, pending_few}
+use Rattle.duties.proofs.Given.{notices_one, row_fits, most_pending, pending_few}
 use Rattle.duties.proofs.Telling.{with_pending}
 use Rattle.duties.proofs.Delivery as D
 
@@ -27,10 +29,10 @@ Takes own share taken =
     (p : Stand) (m : Message) (mail : List Message) (adds : List ℕ) → Stored own p (m ∷ mail) adds
     → (letter m ≡ taken) × Stored share p mail adds
 
-abbrev pub Changes : List ℕ → ℕ → ℕ → ℕ → ℕ → Type 0
+abbrev pub Changes : List AccessRow → ℕ → ℕ → ℕ → ℕ → Type 0
 Changes accesses to flags passes by =
-    (reader : ℕ) (e m : Flags) → Once e → Once (with e m) → reader ≤ 1 → access_number accesses to layout.reader ≡ reader
-    → access_number accesses to layout.flags ≡ flag_number e → flags ≡ flag_number m
+    (reader : ℕ) (e m : Flags) → Once e → Once (with e m) → reader_number (access_row accesses to).reader ≡ reader
+    → (access_row accesses to).flags ≡ flag_number e → flags ≡ flag_number m
     → (passes ≡ passes_read reader (with e m) - passes_read reader e + 2 * (passes_write (with e m) - passes_write e))
     × (by ≡ satisfied reader (with e m) - satisfied reader e)
 
@@ -41,13 +43,13 @@ Passes own share to passes sender posted =
     → passes ≡ passes_read reader f - passes_read reader e + 2 * (passes_write f - passes_write e)
     → Stored share p (mail ++ passed ts sender e f) adds × (posted ≡ length (passed ts sender e f))
 
-abbrev pub Gives : List ℕ → List ℕ → ℕ → ℕ → ℕ → Type 0
+abbrev pub Gives : List ℕ → List ℕ → RustOption ℕ → ℕ → ℕ → Type 0
 Gives own share sender flags noticed =
     (m : Message) (mail : List Message) (adds : List ℕ)
-    → Stored own free mail adds → Once m.flags → flags ≡ flag_number m.flags → sender ≡ option_code m.sender
+    → Stored own free mail adds → Once m.flags → flags ≡ flag_number m.flags → sender ≡ option_of m.sender
     → Stored share (notice_of m m.sender) mail adds × (noticed ≡ notices (notice_of m m.sender))
 
-abbrev pub Lowers : List ℕ → List ℕ → List ℕ → List ℕ → ℕ → ℕ → Type 0
+abbrev pub Lowers : List TaskRow → List ℕ → List TaskRow → List ℕ → ℕ → ℕ → Type 0
 Lowers tasks own rows share task by =
     (ts : List Task) (s : Tasks) (w : ℕ) (p : Stand) (mail : List Message)
     → task < length ts → TaskRows ts tasks s.count s.status s.runner s.receipt s.ending → Stored own p mail (s.adds w)
@@ -84,7 +86,7 @@ module _ {m : TaskMemory} {own : List ℕ} {w : ℕ} (able : Able m own w) (at :
     abbrev flags : ℕ
     flags = taken.flags
 
-    abbrev sender : ℕ
+    abbrev sender : RustOption ℕ
     sender = taken.sender
 
     is : letter d.message ≡ taken
@@ -96,27 +98,24 @@ module _ {m : TaskMemory} {own : List ℕ} {w : ℕ} (able : Able m own w) (at :
     is_to : to ≡ d.message.to
     is_to = D.is_to able d taken is
 
-    pub flags_fit : (length m.accesses ≡ layout.access_rows) × (to < layout.most_accesses)
-        × (access_number m.accesses to layout.flags < 64) × (flags < 64)
+    pub flags_fit : (to < length m.accesses) × ((access_row m.accesses to).flags < 64) × (flags < 64)
     flags_fit = D.flags_fit able d taken is
 
-    module _ {rows : List ℕ} {passes by : ℕ} (stored : rows ≡ set m.accesses (layout.access_row * to + layout.flags)
-        (access_number m.accesses to layout.flags + flags)) (change : Changes m.accesses to flags passes by) where
+    pub access_fits : to < layout.most_accesses
+    access_fits = omega (arith, flags_fit, able.long.accesses)
+
+    module _ {rows : List AccessRow} {passes by : ℕ} (stored : rows ≡ flagged_rows m.accesses to ((access_row m.accesses to).flags + flags))
+        (change : Changes m.accesses to flags passes by) where
       changed : (passes ≡ passes_read kind after - passes_read kind before + 2 * (passes_write after - passes_write before))
           × (by ≡ satisfied kind after - satisfied kind before)
       changed =
-          change kind before d.message.flags (D.once_before able d) (D.both able d)
-          (reader_one able.ts d.message.to)
-          (D.is_reader able d taken is) (D.is_before able d taken is) (D.is_flags able d taken is)
-
-      pub rows_long : length rows ≡ layout.access_rows
-      rows_long = D.rows_long able d taken is rows stored
+          change kind before d.message.flags (D.once_before able d) (D.both able d) (D.is_reader able d taken is) (D.is_before able d taken is) (D.is_flags able d taken is)
 
       pub pass_fits : (length one ≡ layout.part) × (get_or one layout.mail_at 0 < layout.mail_room)
           × (0 < passes → get_or one layout.mail_count 0 < layout.mail_room) × (to < layout.most_accesses)
-      pass_fits = (left.long, left.mail_at_lem, D.post_room able d one passes left changed.0, flags_fit.1)
+      pass_fits = (left.long, left.mail_at_lem, D.post_room able d one passes left changed.0, access_fits)
 
-      module _ {two : List ℕ} {posted : ℕ} (pass : Passes one two (access_number rows to layout.next) passes to posted) where
+      module _ {two : List ℕ} {posted : ℕ} (pass : Passes one two (access_row rows to).next passes to posted) where
         -- what is passed on, by the access that the message goes to
         mail_now : Stored two free (D.mailed able d) (able.t.adds w) × (posted ≡ length (passed able.ts d.message.to before after))
         mail_now =
@@ -133,7 +132,7 @@ module _ {m : TaskMemory} {own : List ℕ} {w : ℕ} (able : Able m own w) (at :
               give d.message (D.mailed able d) (able.t.adds w) mail_now.0 (D.once able d)
               (D.is_flags able d taken is) (D.is_sender able d taken is)
 
-          is_task : access_number rows to layout.task ≡ D.task able d
+          is_task : (access_row rows to).task ≡ D.task able d
           is_task = D.is_task able d taken is rows stored
 
           pub counts_fit : (posted ≤ layout.mail_room) × (noticed ≤ 1)
@@ -142,17 +141,16 @@ module _ {m : TaskMemory} {own : List ℕ} {w : ℕ} (able : Able m own w) (at :
             rw place_now.1 (notices_one (D.stands able d)),
           )
 
-          pub lower_fits : ((length m.rows ≡ layout.task_rows) × (access_number rows to layout.task < layout.most_tasks) × (length
-              three ≡ layout.part) × (get_or three layout.adds_at 0 < layout.add_room))
-              × (0 < task_number m.rows (access_number rows to layout.task) layout.count → task_number m.rows
-              (access_number rows to layout.task) layout.count ≤ by → get_or three layout.adds_count 0 < layout.add_room)
+          pub lower_fits : (((access_row rows to).task < length m.rows) × (length three ≡ layout.part)
+              × (get_or three layout.adds_at 0 < layout.add_room))
+              × (0 < (task_row m.rows (access_row rows to).task).count → (task_row m.rows (access_row rows to).task).count ≤ by → get_or three layout.adds_count 0 < layout.add_room)
           lower_fits =
               rw (is_task, changed.1) (
-                (able.long.rows, D.task_few able d, place_now.0.long, place_now.0.adds_at_lem),
+                (row_fits able.fit able.long (D.task able d) (D.task_below able d), place_now.0.long, place_now.0.adds_at_lem),
                 D.add_room_lem able d three (D.stands able d) (D.mailed able d) place_now.0,
               )
 
-          module _ {tasks four : List ℕ} (lower : Lowers m.rows three tasks four (access_number rows to layout.task) by) where
+          module _ {tasks : List TaskRow} {four : List ℕ} (lower : Lowers m.rows three tasks four (access_row rows to).task by) where
             pub delivered : (k : ℕ) (op : Op) → its_duty able.ts able.t (able.st w) w ≡ some op
                 → HeldAfter able k op (memory (with_pending m.tally (m.tally.pending - 1 + posted + noticed)) tasks rows) four
             delivered =

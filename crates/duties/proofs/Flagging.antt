@@ -1,5 +1,5 @@
 -- Flags in their number: which remainder is which flag, and what passes on or is satisfied by it.
-use Prim.Native.Nat.{ℕ, ◌+◌, ◌-◌, ◌*◌, ◌/◌, ◌%◌, ◌≤◌, ◌<◌}
+use Prim.Native.Nat.{ℕ, ◌+◌, ◌-◌, ◌*◌, ◌/◌, ◌%◌, ◌<◌}
 use native.Mathlib.Omega.{arith}
 use mathlib.Core.Path.{◌≡◌}
 use mathlib.Core.Logic.{◌≢◌}
@@ -22,7 +22,7 @@ module _ (f : Flags) (h : Once f) (n : ℕ) (is : n ≡ flag_number f) where
   read_bit : n % 2 ≡ f.read
   read_bit = omega (arith, h)
 
-  module _ (q : ℕ) (l : q ≤ 1) where
+  module _ (q : ℕ) where
     -- no successor, or over, or a reader, or a writer that is not over
     pub passing_closed : n / 8 % 2 ≡ 0 → 0 ≡ passes_read q f + 2 * passes_write f
     unfolding passes_read passes_write
@@ -45,24 +45,23 @@ module _ (f : Flags) (h : Once f) (n : ℕ) (is : n ≡ flag_number f) where
         let a = h.read in
         rw (read_bit, next, done, e) (omega arith)
 
-    pub passing_none : n / 4 % 2 ≢ 1 → q ≢ 1 → 0 ≡ passes_read q f + 2 * passes_write f
+    pub passing_none : n / 4 % 2 ≢ 1 → q ≡ 0 → 0 ≡ passes_read q f + 2 * passes_write f
     unfolding passes_read passes_write
     passing_none d e =
         let done : f.done ≡ 0 = omega (arith, done_bit, h.done) in
-        let z : q ≡ 0 = omega arith in
-        rw (done, z) (omega arith)
+        rw (done, e) (omega arith)
 
     pub satisfied_reader : q ≡ 1 → n % 2 ≡ satisfied q f
     unfolding satisfied
     satisfied_reader e = let a = h.read in rw (read_bit, e) (omega arith)
 
-    pub satisfied_both : q ≢ 1 → n % 4 ≡ 3 → 1 ≡ satisfied q f
+    pub satisfied_both : q ≡ 0 → n % 4 ≡ 3 → 1 ≡ satisfied q f
     unfolding satisfied
-    satisfied_both e b = let r = h.read in let w = h.write in let s = rights_of in omega arith
+    satisfied_both e b = let r = h.read in let w = h.write in let s = rights_of in rw e (omega arith)
 
-    pub satisfied_not : q ≢ 1 → n % 4 ≢ 3 → 0 ≡ satisfied q f
+    pub satisfied_not : q ≡ 0 → n % 4 ≢ 3 → 0 ≡ satisfied q f
     unfolding satisfied
-    satisfied_not e b = let r = h.read in let w = h.write in let s = rights_of in let z : q ≡ 0 = omega arith in rw z (omega arith)
+    satisfied_not e b = let r = h.read in let w = h.write in let s = rights_of in rw e (omega arith)
 
 -- what passes on rises with the flags, so differences add up
 pub passes_more : (q : ℕ) (e m : Flags)

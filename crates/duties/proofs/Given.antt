@@ -1,9 +1,11 @@
 -- What an operation is given: the worker in its part, what the numbers of the part say of it, and what is bounded wherever it can act.
 use Prim.Native.Nat.{ℕ, zero, suc, ◌+◌, ◌*◌, ◌≤◌, ◌<◌}
 use native.Mathlib.Omega.{arith}
-use mathlib.Core.Path.{◌≡◌, refl, sym, ap}
+use mathlib.Core.Path.{◌≡◌, refl, sym, ap, ◌∙◌}
 use mathlib.Core.List.{List, ◌∷◌}
 use mathlib.Core.Option.{some}
+use Rattle.std.specs.Prelude.{Option as RustOption, Some, None}
+use Rattle.std.proofs.lemmas.Option.{none-some}
 use lib.ListN.{length}
 use Rattle.runs.specs.Sums.{le_sum, sum_le, sum_const}
 use borrow.Author.Tests.{lt-ltb, le-ltb}
@@ -15,7 +17,7 @@ use Rattle.tasks.specs.History.{Op, Can, after, minds, opens, links, closes, tel
 use Rattle.tasks.specs.Duties.{duty, creating}
 use Rattle.memory.specs.Layout as layout
 use Rattle.memory.specs.Codes.{Coded, Making}
-use Rattle.memory.specs.Rows.{access_number}
+use Rattle.memory.specs.Rows.{access_row}
 use Rattle.memory.specs.Memory.{TaskMemory, Long, Fit, Able, notices, its_duty, its_creating}
 use Rattle.duties.specs.FromTasks.{first_last, first_within, mail_after, adds_after}
 use Rattle.tasks.proofs.Promise.{first_zero, first_suc, flags_once}
@@ -77,17 +79,13 @@ module _ (ts : List Task) (t : Tasks) (x : Stand) (w : ℕ) (op : Op) where
   its_close i a e l h = let z : its_creating ts t x w ≡ some (minds (closes i)) = rw (e, creating, le-ltb a (first ts (suc i)) l) in cc
 
 -- where creation is, by whether a task is open
-pub opening_at : (opened task access : ℕ) (x : Creation) → Making opened task access x → opened ≡ 0 → x ≡ opening task
-opening_at opened task access (opening i) e z = ap opening (sym e.1)
-opening_at opened task access (linking i a) e z = absurd (omega (arith, e.0))
+pub opening_at : (task : ℕ) (access : RustOption ℕ) (x : Creation) → Making task access x → access ≡ None → x ≡ opening task
+opening_at task access (opening i) e z = ap opening (sym e.0)
+opening_at task access (linking i a) e z = let y : None ≡ Some a = sym z ∙ e.1 in absurd (none-some a y)
 
-pub linking_at : (opened task access : ℕ) (x : Creation) → Making opened task access x → 0 < opened → x ≡ linking task access
-linking_at opened task access (opening i) e l = absurd (omega (arith, e.0))
-linking_at opened task access (linking i a) e l = let (z, x, y) = e in cc
-
-pub opened_one : (opened task access : ℕ) (x : Creation) → Making opened task access x → 0 < opened → opened ≡ 1
-opened_one opened task access (opening i) e l = absurd (omega (arith, e.0))
-opened_one opened task access (linking i a) e l = e.0
+pub linking_at : (task a : ℕ) (access : RustOption ℕ) (x : Creation) → Making task access x → access ≡ Some a → x ≡ linking task a
+linking_at task a access (opening i) e z = let y : None ≡ Some a = sym e.1 ∙ z in absurd (none-some a y)
+linking_at task a access (linking i b) e z = let (x, y) = e in let q : Some b ≡ Some a = sym y ∙ z in cc
 
 pub notices_one : (x : Stand) → notices x ≤ 1
 notices_one free = omega arith
@@ -114,10 +112,10 @@ module _ {W : ℕ} {ts : List Task} {t : Tasks} {st : ℕ → Stand} {w : ℕ} (
   tasks_few i l = omega (arith, l, fit.sized.tasks)
 
   -- the row of a task lies in the array, and so does that of an access
-  pub row_fits : {m : TaskMemory} → Long m → (i : ℕ) → i < length ts → layout.task_row * i + layout.task_row ≤ length m.rows
+  pub row_fits : {m : TaskMemory} → Long m → (i : ℕ) → i < length ts → i < length m.rows
   row_fits long i l = omega (arith, tasks_few i l, long.rows)
 
-  pub access_fits : {m : TaskMemory} → Long m → (x : ℕ) → x < total ts → layout.access_row * x + layout.access_row ≤ length m.accesses
+  pub access_fits : {m : TaskMemory} → Long m → (x : ℕ) → x < total ts → x < length m.accesses
   access_fits long x l = omega (arith, accesses_few x l, long.accesses)
 
   -- the accesses of a task end within those of the plan
@@ -135,10 +133,10 @@ module _ {W : ℕ} {ts : List Task} {t : Tasks} {st : ℕ → Stand} {w : ℕ} (
 module _ {m : TaskMemory} {own : List ℕ} {w : ℕ} (a : Able m own w) where
   -- the flags of an access in its row
   module _ (x : ℕ) (within : x < total a.ts) where
-    pub row_flags : access_number m.accesses x layout.flags ≡ flag_number (a.t.flags x)
+    pub row_flags : (access_row m.accesses x).flags ≡ flag_number (a.t.flags x)
     row_flags = a.holds.access_rows_lem.flags x within
 
-    pub row_small : access_number m.accesses x layout.flags < 64
+    pub row_small : (access_row m.accesses x).flags < 64
     row_small = number_small (a.t.flags x) (flags_once a.fit.kept x) _ row_flags
 
   -- what is pending: at least what is the worker's own, at most four messages and a notice for each worker

@@ -4,29 +4,30 @@ use native.Mathlib.Omega.{arith}
 use mathlib.Core.Path.{◌≡◌, ap}
 use mathlib.Core.List.{List}
 use mathlib.Core.Option.{some}
-use lib.ListN.{length, get_or, set}
+use lib.ListN.{length, get_or}
 use Rattle.tasks.specs.Flags.{Flags, flag_number, with, sent, Once}
 use Rattle.tasks.specs.Tasks.{Stand, free, telling}
 use Rattle.tasks.specs.History.{Op, after}
 use Rattle.memory.specs.Layout as layout
 use Rattle.tasks.specs.Accesses.{total}
-use Rattle.memory.specs.Rows.{access_number}
+use Rattle.memory.specs.Rows.{access_row, flagged_rows}
+use Rattle.memory.specs.declared.rows.AccessRow.{AccessRow}
 use Rattle.memory.specs.Shares.{Stored}
 use Rattle.memory.specs.Memory.{TaskMemory, memory, notices, Able, HeldAfter, its_duty}
 use Rattle.memory.specs.declared.tally.Tally.{Tally}
 use Rattle.memory.specs.RowLaws.{flags_set}
 use Rattle.tasks.proofs.Promise.{notice_once}
 use Rattle.duties.proofs.Held.{own_stored, stored_still, pending_still}
-use Rattle.duties.proofs.Given.{telling_at, its_tell, accesses_few, access_fits, row_flags, row_small, pending_here}
+use Rattle.duties.proofs.Given.{telling_at, its_tell, access_fits, row_flags, row_small, pending_here}
 
 -- the numbers with another number of messages and notices that are pending
 abbrev pub with_pending : Tally → ℕ → Tally
 with_pending n pending =
-    record { tasks = n.tasks; opened = n.opened; task = n.task; access = n.access; left = n.left; pending = pending }
+    record { tasks = n.tasks; task = n.task; access = n.access; left = n.left; pending = pending }
 
 -- the rows of accesses: what was passed is now a SENT flag
-abbrev pub told_rows : List ℕ → ℕ → ℕ → List ℕ
-told_rows rows access rights = set rows (layout.access_row * access + layout.flags) (access_number rows access layout.flags + 16 * rights)
+abbrev pub told_rows : List AccessRow → ℕ → ℕ → List AccessRow
+told_rows rows access rights = flagged_rows rows access ((access_row rows access).flags + 16 * rights)
 
 -- the notice that a worker is to give, and its numbers
 pub record Noticed (n : ℕ) (x : Stand) (own : List ℕ) : Type 0 where
@@ -72,15 +73,15 @@ module _ {m : TaskMemory} {own : List ℕ} {w : ℕ} (a : Able m own w) (at : ge
       }
 
 -- what the code needs to know of them
-pub record Noticing (n : Tally) (accesses own : List ℕ) : Type 0 where
+pub record Noticing (n : Tally) (accesses : List AccessRow) (own : List ℕ) : Type 0 where
   pub long : length own ≡ layout.part
-  pub rows : length accesses ≡ layout.access_rows
-  pub access : get_or own layout.about 0 < layout.most_accesses
+  pub access : get_or own layout.about 0 < length accesses
+  pub few : length accesses ≡ layout.most_accesses
   pub rights : get_or own layout.left 0 < 4
-  pub row : access_number accesses (get_or own layout.about 0) layout.flags < 64
+  pub row : (access_row accesses (get_or own layout.about 0)).flags < 64
   pub pending : 1 ≤ n.pending
 
-pub noticing : {n : Tally} {accesses own : List ℕ}
+pub noticing : {n : Tally} {accesses : List AccessRow} {own : List ℕ}
     → ((m : TaskMemory) × (w : ℕ) × Able (memory n m.rows accesses) own w) × (get_or own layout.stand 0 ≡ layout.telling)
     → Noticing n accesses own
 noticing ((m, w, a), at) =
@@ -88,8 +89,8 @@ noticing ((m, w, a), at) =
     let n : 1 ≤ length (a.t.mail w) + notices (a.st w) = rw o.stand (omega arith) in
     record {
       long = (own_stored a).long;
-      rows = a.long.accesses;
-      access = rw o.is_to (accesses_few a.fit o.to o.within);
+      access = rw o.is_to (access_fits a.fit a.long o.to o.within);
+      few = a.long.accesses;
       rights = omega (arith, o.is_flags, o.once.read, o.once.write);
       row = rw o.is_to (row_small a o.to o.within);
       pending = omega (arith, n, pending_here a);

@@ -1,13 +1,12 @@
 -- A worker with a task: the messages of an ending, and the memory after a receipt, after a step of work and after an ending.
-use Prim.Native.Nat.{ℕ, zero, suc, ◌+◌, ◌-◌, ◌*◌, ◌≤◌, ◌<◌}
+use Prim.Native.Nat.{ℕ, zero, suc, ◌+◌, ◌-◌, ◌≤◌, ◌<◌}
 use native.Mathlib.Omega.{arith}
 use native.Mathlib.Numerals.{add-one}
 use native.Mathlib.Nat.{add-zero}
 use mathlib.Core.Path.{◌≡◌, refl, ap, ◌∙◌}
 use mathlib.Core.List.{List, [], ◌∷◌, ◌++◌, map, map-append, append_assoc}
 use mathlib.Core.Option.{some}
-use lib.ListN.{length, get_or, set, length-set, length-map, length-append}
-use lib.Seq.{get_or-set_other}
+use lib.ListN.{length, get_or, set, length-map, length-append}
 use mathlib.Core.Logic.{◌≢◌}
 use Rattle.runs.specs.Update.{upd, upd_same, upd_other}
 use Rattle.runs.specs.Sums.{le_sum}
@@ -19,15 +18,17 @@ use Rattle.tasks.specs.History as Th
 use Rattle.tasks.specs.History.{Op, Can, can_take, can_receive, takes, receives, plain, done_messages}
 use Rattle.memory.specs.Layout as layout
 use Rattle.memory.specs.Shares.{Stored}
-use Rattle.memory.specs.Rows.{task_number, TaskRows, received_rows}
+use Rattle.memory.specs.Rows.{task_row, TaskRows, received_rows}
+use Rattle.memory.specs.declared.rows.TaskRow.{TaskRow}
+use Rattle.memory.specs.declared.rows.Status.TheVariants.{Over}
 use Rattle.memory.specs.Memory.{TaskMemory, memory, HoldsTasks, Able, HeldAfter, unfinished, notices, its_duty}
 use Rattle.memory.specs.declared.tally.Tally.{Tally}
 use Rattle.memory.specs.ShareLaws.{mail_count_lem}
-use Rattle.memory.specs.RowLaws.{status_set, runner_set, receipt_set, ending_set}
+use Rattle.memory.specs.RowLaws.{row_set}
 use Rattle.duties.specs.FromTasks.{working_within, given_within, held_within}
 use Rattle.tasks.proofs.Promise.{first_suc, numbers_length, done_length}
 use Rattle.duties.proofs.Held.{own_stored, stored_now, stored_still, pending_now, pending_still, left_now}
-use Rattle.duties.proofs.Given.{working_at, its_work, its_end, tasks_few, total_few, row_fits, end_within, most_pending, pending_few}
+use Rattle.duties.proofs.Given.{working_at, its_work, its_end, total_few, row_fits, end_within, most_pending, pending_few}
 
 -- DONE for each of so many accesses from `a` on
 abbrev pub dones_from : ℕ → ℕ → List Message
@@ -51,15 +52,6 @@ dones_length a n = length-map (numbers_from a n) (λ b. plain b DONE) ∙ number
 pub dones_more : (mail : List Message) (a n : ℕ) → mail ++ dones_from a (n + 1) ≡ (mail ++ dones_from a n) ++ plain (a + n) DONE ∷ []
 dones_more mail a n = rw (add-one n, numbers_snoc a n, map-append, append_assoc)
 
-pub received_cost : (rows : List ℕ) (i w time : ℕ) → task_number (received_rows rows i w time) i layout.cost ≡ task_number rows i layout.cost
-received_cost rows i w time =
-    let row = layout.task_row * i in
-    let one = set rows (row + layout.status) layout.running in
-    let two = set one (row + layout.runner) w in
-    get_or-set_other two (row + layout.receipt) (row + layout.cost) time 0 (λ e. omega arith)
-    ∙ get_or-set_other one (row + layout.runner) (row + layout.cost) w 0 (λ e. omega arith)
-    ∙ get_or-set_other rows (row + layout.status) (row + layout.cost) layout.running 0 (λ e. omega arith)
-
 module _ {m : TaskMemory} {own : List ℕ} {w : ℕ} (a : Able m own w) where
   -- ---- a receipt
 
@@ -67,14 +59,14 @@ module _ {m : TaskMemory} {own : List ℕ} {w : ℕ} (a : Able m own w) where
       → TaskRows a.ts (received_rows m.rows i w k) a.t.count (upd a.t.status i running) (upd a.t.runner i w)
       (upd a.t.receipt i k) a.t.ending
   received_rows_lem i k l =
-      let fits = row_fits a.fit a.long i l in
-      let one = status_set a.ts _ _ _ _ _ _ a.holds.task_rows_lem i fits running in
-      let two = runner_set a.ts _ _ _ _ _ _ one i (simp length-set fits) w in
-      receipt_set a.ts _ _ _ _ _ _ two i (simp length-set fits) k
+      row_set a.ts _ _ _ _ _ _ a.holds.task_rows_lem i (row_fits a.fit a.long i l) _ a.t.count (upd a.t.status i running)
+      (upd a.t.runner i w) (upd a.t.receipt i k) a.t.ending
+      (λ b. rw (a.holds.task_rows_lem i b, upd_same a.t.status i running, upd_same a.t.runner i w, upd_same a.t.receipt i k))
+      (λ j d. rw (upd_other a.t.status i running j d, upd_other a.t.runner i w j d, upd_other a.t.receipt i k j d))
 
   -- the cost as the row has it
-  pub cost_at : (i k : ℕ) → i < length a.ts → task_number (received_rows m.rows i w k) i layout.cost ≡ (task_at a.ts i).cost
-  cost_at i k l = (received_rows_lem i k l).cost i l
+  pub cost_at : (i : ℕ) → i < length a.ts → (task_row m.rows i).cost ≡ (task_at a.ts i).cost
+  cost_at i l = ap (λ (r : TaskRow). r.cost) (a.holds.task_rows_lem i l)
 
   module _ (i : ℕ) (x : a.st w ≡ free) (before : unfinished (a.t.status i) ≡ 1) (within : i < length a.ts) where
     receives_holds : (k : ℕ) (next : List ℕ) → Stored next (working i (task_at a.ts i).cost) (a.t.mail w) (a.t.adds w)
@@ -142,33 +134,46 @@ module _ {m : TaskMemory} {own : List ℕ} {w : ℕ} (a : Able m own w) where
 -- ---- an ending
 
 -- the rows of the tasks
-abbrev pub ended_rows : List ℕ → ℕ → ℕ → List ℕ
-ended_rows rows i time = set (set rows (layout.task_row * i + layout.status) layout.over) (layout.task_row * i + layout.ending) time
+abbrev pub ended_rows : List TaskRow → ℕ → ℕ → List TaskRow
+ended_rows rows i time =
+    let row = task_row rows i in
+    set rows i
+    (record {
+      count = row.count;
+      status = Over;
+      runner = row.runner;
+      receipt = row.receipt;
+      ending = time;
+      cost = row.cost;
+      first = row.first;
+      accesses = row.accesses;
+    })
 
 -- the numbers, with so many messages
 abbrev pub ended_tally : Tally → ℕ → Tally
 ended_tally n count =
-    record { tasks = n.tasks; opened = n.opened; task = n.task; access = n.access; left = n.left - 1; pending = n.pending + count }
+    record { tasks = n.tasks; task = n.task; access = n.access; left = n.left - 1; pending = n.pending + count }
 
-module _ {m : TaskMemory} {own : List ℕ} {w : ℕ} (a : Able m own w) (k i n : ℕ) (p : a.st w ≡ working i n) where
+module _ {m : TaskMemory} {own : List ℕ} {w : ℕ} (a : Able m own w) (i n : ℕ) (p : a.st w ≡ working i n) where
   in_hand_lem : (i < length a.ts) × (a.t.status i ≡ running) × (a.t.mail w ≡ [])
   in_hand_lem = working_within a.fit.kept w i n a.fit.worker p
 
   in_plan : i < length a.ts
   in_plan = in_hand_lem.0
 
-  ended_rows_lem : TaskRows a.ts (ended_rows m.rows i k) a.t.count (upd a.t.status i over) a.t.runner a.t.receipt
+  ended_rows_lem : (k : ℕ) → TaskRows a.ts (ended_rows m.rows i k) a.t.count (upd a.t.status i over) a.t.runner a.t.receipt
       (upd a.t.ending i k)
-  ended_rows_lem =
-      let fits = row_fits a.fit a.long i in_plan in
-      let one = status_set a.ts _ _ _ _ _ _ a.holds.task_rows_lem i fits over in
-      ending_set a.ts _ _ _ _ _ _ one i (simp length-set fits) k
+  ended_rows_lem k =
+      row_set a.ts _ _ _ _ _ _ a.holds.task_rows_lem i (row_fits a.fit a.long i in_plan) _ a.t.count (upd a.t.status i over) a.t.runner
+      a.t.receipt (upd a.t.ending i k)
+      (λ b. rw (a.holds.task_rows_lem i b, upd_same a.t.status i over, upd_same a.t.ending i k))
+      (λ j d. rw (upd_other a.t.status i over j d, upd_other a.t.ending i k j d))
 
-  pub ended_first : task_number (ended_rows m.rows i k) i layout.first ≡ first a.ts i
-  ended_first = ended_rows_lem.first i in_plan
+  pub ended_first : (task_row m.rows i).first ≡ first a.ts i
+  ended_first = ap (λ (r : TaskRow). r.first) (a.holds.task_rows_lem i in_plan)
 
-  pub ended_count : task_number (ended_rows m.rows i k) i layout.accesses ≡ length (task_at a.ts i).accesses
-  ended_count = ended_rows_lem.accesses i in_plan
+  pub ended_count : (task_row m.rows i).accesses ≡ length (task_at a.ts i).accesses
+  ended_count = ap (λ (r : TaskRow). r.accesses) (a.holds.task_rows_lem i in_plan)
 
   accesses_within : first a.ts i + length (task_at a.ts i).accesses ≤ layout.most_accesses
   accesses_within = omega (arith, first_suc a.ts i in_plan, end_within a.fit i in_plan, total_few a.fit)
@@ -182,7 +187,7 @@ module _ {m : TaskMemory} {own : List ℕ} {w : ℕ} (a : Able m own w) (k i n :
 module _ {m : TaskMemory} {own : List ℕ} {w : ℕ} (a : Able m own w) (k i : ℕ) (p : a.st w ≡ working i 0) where
   pub ends_holds : (next : List ℕ) → Stored next free (a.t.mail w ++ done_messages a.ts i) (a.t.adds w) → (op : Op)
       → its_duty a.ts a.t (a.st w) w ≡ some op
-      → HeldAfter a k op (memory (ended_tally m.tally (task_number (ended_rows m.rows i k) i layout.accesses))
+      → HeldAfter a k op (memory (ended_tally m.tally (task_row m.rows i).accesses)
       (ended_rows m.rows i k) m.accesses) next
   unfolding Th.after
   ends_holds next new op is =
@@ -195,48 +200,46 @@ module _ {m : TaskMemory} {own : List ℕ} {w : ℕ} (a : Able m own w) (k i : �
       (record {
         tasks = h.tasks;
         stored = stored_now a next free posted a.t.adds others (λ v d. refl) (rw mine new);
-        task_rows_lem = ended_rows_lem a k i 0 p;
+        task_rows_lem = ended_rows_lem a i 0 p k;
         access_rows_lem = h.access_rows_lem;
         creation = h.creation;
-        left = omega (arith, in_work a k i 0 p, left_now a i (in_plan a k i 0 p) over);
+        left = omega (arith, in_work a i 0 p, left_now a i (in_plan a i 0 p) over);
         pending = omega (
           arith,
           ap notices p,
           ap length mine,
           length-append (a.t.mail w) (done_messages a.ts i),
           done_length a.ts i,
-          ended_count a k i 0 p,
+          ended_count a i 0 p,
           pending_now a posted others free,
         );
       })
 
 -- what the code of an ending rests on
-pub record Ending (n : Tally) (time : ℕ) (table own : List ℕ) : Type 0 where
+pub record Ending (n : Tally) (rows : List TaskRow) (own : List ℕ) : Type 0 where
   pub part : length own ≡ layout.part
-  pub rows : length table ≡ layout.task_rows
-  pub task : get_or own layout.about 0 < layout.most_tasks
+  pub task : get_or own layout.about 0 < length rows
+  pub few : length rows ≡ layout.most_tasks
   pub stored : (p : Stand) × (mail : List Message) × (adds : List ℕ) × Stored own p mail adds
-  pub room : get_or own layout.mail_count 0 + task_number (ended_rows table (get_or own layout.about 0) time) (get_or own layout.about 0)
-      layout.accesses ≤ layout.mail_room
-  pub within : task_number (ended_rows table (get_or own layout.about 0) time) (get_or own layout.about 0) layout.first
-      + task_number (ended_rows table (get_or own layout.about 0) time) (get_or own layout.about 0) layout.accesses ≤ layout.most_accesses
+  pub room : get_or own layout.mail_count 0 + (task_row rows (get_or own layout.about 0)).accesses ≤ layout.mail_room
+  pub within : (task_row rows (get_or own layout.about 0)).first + (task_row rows (get_or own layout.about 0)).accesses ≤ layout.most_accesses
   pub left : 1 ≤ n.left
   pub pending : n.pending ≤ most_pending
 
-pub ending : {m : TaskMemory} {own : List ℕ} {w : ℕ} (k : ℕ) → Able m own w → get_or own layout.stand 0 ≡ layout.working
-    → Ending m.tally k m.rows own
-ending {m} {own} {w} k a place =
+pub ending : {m : TaskMemory} {own : List ℕ} {w : ℕ} → Able m own w → get_or own layout.stand 0 ≡ layout.working
+    → Ending m.tally m.rows own
+ending {m} {own} {w} a place =
     let i = get_or own layout.about 0 in
     let n = get_or own layout.left 0 in
     let h = own_stored a in
     let p = at_work a place in
     record {
       part = h.long;
-      rows = a.long.rows;
-      task = tasks_few a.fit i (in_plan a k i n p);
+      task = row_fits a.fit a.long i (in_plan a i n p);
+      few = a.long.rows;
       stored = (_, _, _, h);
-      room = omega (arith, ended_count a k i n p, a.fit.sized.each i, mail_count_lem h, ap length (in_hand_lem a k i n p).2);
-      within = omega (arith, ended_count a k i n p, ended_first a k i n p, accesses_within a k i n p);
-      left = one_left a k i n p;
+      room = omega (arith, ended_count a i n p, a.fit.sized.each i, mail_count_lem h, ap length (in_hand_lem a i n p).2);
+      within = omega (arith, ended_count a i n p, ended_first a i n p, accesses_within a i n p);
+      left = one_left a i n p;
       pending = pending_few a;
     }

@@ -1,89 +1,87 @@
 // The tasks are created: a task is opened, its accesses are linked, it is closed.
-ghost use Rattle.std.specs.Prelude.{◌≡◌, true, List, ℕ, ◌≤◌, ◌<◌, get_or};
+ghost use Rattle.std.specs.Prelude.{◌≡◌, true, List, ℕ, ◌≤◌, ◌<◌, get_or, Some, None};
 ghost use Rattle.memory.specs.Layout as layout;
 ghost use Rattle.memory.specs.Memory.{TaskMemory, memory, Able, Acts, its_creating, end_of, to_create};
 
 use super::deliver::lower;
 use super::flags::{NEXT, READ_WRITE};
-use memory::layout;
+use memory::rows::{AccessRow, Status, TaskRow};
 use memory::share::post;
 use memory::tally::Tally;
 
 // Opens the next task: its count is its accesses and 1.
-fn open(n: Tally, rows: &mut [u64]) -> Tally
+fn open(n: Tally, rows: &mut [TaskRow]) -> Tally
     requires { ((m : TaskMemory) × (own : List ℕ) × (w : ℕ) × Able (memory n rows.old m.accesses) own w)
-        × (n.opened ≡ 0) × (n.task < n.tasks) }
+        × (n.access ≡ None) × (n.task < n.tasks) }
     ensures { (m : TaskMemory) (own : List ℕ) (k w : ℕ) → Acts its_creating k (memory n rows.old m.accesses) own
         (memory result rows.new m.accesses) own w }
 {
-    let row = layout::TASK_ROW * n.task as usize;
-    rows[row + layout::COUNT] = rows[row + layout::ACCESSES] + 1;
-    rows[row + layout::STATUS] = layout::WAITING;
-    let mut r = n;
-    r.opened = 1;
-    r.access = rows[row + layout::FIRST];
-    r
+    let row = &mut rows[n.task as usize];
+    row.count = row.accesses + 1;
+    row.status = Status::Waiting;
+    let access = Some(row.first);
+    Tally { access, ..n }
 }
 
 // Links the next access: the first to its address is sent READ and WRITE, else the last before it is sent NEXT.
-fn link(n: Tally, accesses: &[u64], own: &mut [u64]) -> Tally
-    requires { ((m : TaskMemory) × (w : ℕ) × Able (memory n m.rows accesses.now) own.old w × (n.access < end_of n m.rows))
-        × (get_or own.old layout.mail_count 0 ≡ 0) × (n.opened ≡ 1) }
-    ensures { (m : TaskMemory) (k w : ℕ) → n.access < end_of n m.rows →
+fn link(n: Tally, access: u64, accesses: &[AccessRow], own: &mut [u64]) -> Tally
+    requires { ((m : TaskMemory) × (w : ℕ) × Able (memory n m.rows accesses.now) own.old w × (access < end_of n m.rows))
+        × (get_or own.old layout.mail_count 0 ≡ 0) × (n.access ≡ Some access) }
+    ensures { (m : TaskMemory) (k w : ℕ) → access < end_of n m.rows →
         Acts its_creating k (memory n m.rows accesses.now) own.old
         (memory result m.rows accesses.now) own.new w }
 {
-    let access = n.access;
-    let row = layout::ACCESS_ROW * access as usize;
-    let prev = accesses[row + layout::PREV];
-    if prev == 0 {
-        post(own, access, READ_WRITE, 0);
-    } else {
-        post(own, prev - 1, NEXT, 0);
+    match accesses[access as usize].prev {
+        None => post(own, access, READ_WRITE, None),
+        Some(prev) => post(own, prev, NEXT, None),
     }
-    let mut r = n;
-    r.access = access + 1;
-    r.pending = n.pending + 1;
-    r
+    Tally {
+        access: Some(access + 1),
+        pending: n.pending + 1,
+        ..n
+    }
 }
 
 // Closes the task: it no longer counts itself.
-fn close(n: Tally, rows: &mut [u64], own: &mut [u64]) -> Tally
+fn close(n: Tally, access: u64, rows: &mut [TaskRow], own: &mut [u64]) -> Tally
     requires { ((m : TaskMemory) × (w : ℕ) × Able (memory n rows.old m.accesses) own.old w)
-        × (get_or own.old layout.adds_count 0 ≡ 0) × (n.opened ≡ 1) × (end_of n rows.old ≤ n.access) }
+        × (get_or own.old layout.adds_count 0 ≡ 0) × (n.access ≡ Some access) × (end_of n rows.old ≤ access) }
     ensures { (m : TaskMemory) (k w : ℕ) → Acts its_creating k (memory n rows.old m.accesses) own.old
         (memory result rows.new m.accesses) own.new w }
 {
     lower(rows, own, n.task, 1);
-    let mut r = n;
-    r.opened = 0;
-    r.task = n.task + 1;
-    r
+    Tally {
+        task: n.task + 1,
+        access: None,
+        ..n
+    }
 }
 
 // Whether tasks are still to be created.
 pub fn is_creating(n: Tally) -> bool
     ensures { result ≡ to_create n }
 {
-    if n.opened == 0 {
-        return n.task < n.tasks;
+    match n.access {
+        None => n.task < n.tasks,
+        Some(_) => true,
     }
-    true
 }
 
 // The next creating step.
-pub fn create(n: Tally, rows: &mut [u64], accesses: &[u64], own: &mut [u64]) -> Tally
+pub fn create(n: Tally, rows: &mut [TaskRow], accesses: &[AccessRow], own: &mut [u64]) -> Tally
     requires { ((w : ℕ) × Able (memory n rows.old accesses.now) own.old w)
         × (get_or own.old layout.adds_count 0 ≡ 0) × (get_or own.old layout.mail_count 0 ≡ 0) × (to_create n ≡ true) }
     ensures { (k w : ℕ) → Acts its_creating k (memory n rows.old accesses.now) own.old
         (memory result rows.new accesses.now) own.new w }
 {
-    if n.opened == 0 {
-        return open(n, rows);
+    match n.access {
+        None => open(n, rows),
+        Some(access) => {
+            let row = &rows[n.task as usize];
+            if access < row.first + row.accesses {
+                return link(n, access, accesses, own);
+            }
+            close(n, access, rows, own)
+        }
     }
-    let row = layout::TASK_ROW * n.task as usize;
-    if n.access < rows[row + layout::FIRST] + rows[row + layout::ACCESSES] {
-        return link(n, accesses, own);
-    }
-    close(n, rows, own)
 }

@@ -1,4 +1,5 @@
-// What a worker does with the tasks, in code: `specs/Memory.antt` of the crate `memory` says how the tasks lie in what is lent here.
+// What a worker does with the tasks, in code: `specs/Memory.antt` of the crate `memory` says how the tasks lie in what is lent here. Each
+// function is lent the arrays that it may change and no others, so no struct holds them here.
 
 #![tactic(auto)]
 

@@ -10,6 +10,7 @@ ghost use Rattle.memory.specs.Memory.{TaskMemory, memory, Able, Acts, its_duty};
 
 use super::flags::DONE;
 use memory::layout;
+use memory::rows::{Status, TaskRow};
 use memory::share::{post, stand};
 use memory::tally::Tally;
 
@@ -21,34 +22,33 @@ fn post_done(own: &mut [u64], first: u64, count: u64)
         first ≡ Rattle.tasks.specs.Accesses.first ts i → count ≡ length (task_at ts i).accesses
         → Stored own.new p (mail ++ done_messages ts i) adds }
 {
-    let mut k: u64 = 0;
-    while k < count {
-        post(own, first + k, DONE, 0);
-        k += 1;
+    for access in first..first + count {
+        post(own, access, DONE, None);
     }
 }
 
 // Ends the task.
-fn end(n: Tally, rows: &mut [u64], own: &mut [u64], time: u64) -> Tally
+fn end(n: Tally, rows: &mut [TaskRow], own: &mut [u64], time: u64) -> Tally
     requires { ((m : TaskMemory) × (w : ℕ) × Able (memory n rows.old m.accesses) own.old w)
         × (get_or own.old layout.stand 0 ≡ layout.working) × (get_or own.old layout.left 0 ≡ 0) }
     ensures { (m : TaskMemory) (w : ℕ) → Acts its_duty time (memory n rows.old m.accesses) own.old
         (memory result rows.new m.accesses) own.new w }
 {
-    let row = layout::TASK_ROW * own[layout::ABOUT] as usize;
-    rows[row + layout::STATUS] = layout::OVER;
-    rows[row + layout::ENDING] = time;
-    let count = rows[row + layout::ACCESSES];
-    post_done(own, rows[row + layout::FIRST], count);
+    let row = &mut rows[own[layout::ABOUT] as usize];
+    row.status = Status::Over;
+    row.ending = time;
+    let count = row.accesses;
+    post_done(own, row.first, count);
     stand(own, layout::FREE, 0, 0);
-    let mut r = n;
-    r.left = n.left - 1;
-    r.pending = n.pending + count;
-    r
+    Tally {
+        left: n.left - 1,
+        pending: n.pending + count,
+        ..n
+    }
 }
 
 // Works on the task, or ends it.
-pub(crate) fn work(n: Tally, rows: &mut [u64], own: &mut [u64], time: u64) -> Tally
+pub(crate) fn work(n: Tally, rows: &mut [TaskRow], own: &mut [u64], time: u64) -> Tally
     requires { ((m : TaskMemory) × (w : ℕ) × Able (memory n rows.old m.accesses) own.old w)
         × (get_or own.old layout.stand 0 ≡ layout.working) }
     ensures { (m : TaskMemory) (w : ℕ) → Acts its_duty time (memory n rows.old m.accesses) own.old

@@ -1,18 +1,18 @@
-// What is kept of a plan that is read, in numbers: `specs/Tasks.antt` and `specs/Orders.antt` say which number stands where.
+// What is kept of a plan that is read: a row for each task, and the order lines. `specs/Tasks.antt` and `specs/Orders.antt` say which
+// tasks and order lines these are.
 
 #![tactic(auto)]
 
 ghost use Rattle.std.specs.Prelude.{◌≡◌, set};
 
-pub mod layout; // layout.rt: names of columns and codes
-pub mod orders; // orders.rt: order lines
+pub mod layout; // layout.rt: what there is room for
 pub mod tasks; // tasks.rt: tasks
 
-// Sets a number, where the array reaches so far.
-fn put(numbers: &mut [u64], at: usize, value: u64)
-    ensures { numbers.new ≡ set numbers.old at value }
+// Keeps an item, where the slice reaches so far.
+pub fn keep<T: Copy>(items: &mut [T], at: usize, item: T)
+    ensures { items.new ≡ set items.old at item }
 {
-    if at < numbers.len() {
-        numbers[at] = value;
+    if at < items.len() {
+        items[at] = item;
     }
 }

@@ -1,74 +1,44 @@
-// Tasks in rows of numbers.
-ghost use Rattle.std.specs.Prelude.{◌≡◌, ◌+◌, ◌*◌, ◌≤◌, ◌<◌, length, set};
-ghost use Rattle.std.proofs.lemmas.List.Edits.{sets};
-ghost use Rattle.kept.specs.Layout as lay;
-ghost use Rattle.kept.specs.Tasks.{row_at, touch_at, label_at};
+// Tasks in rows.
+ghost use Rattle.std.specs.Prelude.{◌≡◌, Some};
+ghost use Rattle.kept.specs.Tasks.{blank, label_at, with_mask};
 
-use super::{layout, put};
+use super::layout;
+use plan::access::Access;
 
-// A task's row without its accesses: where its label stands in the text and how long it is, its cost, its mask (0 for none), how many
-// accesses it has.
+// A task's row: where its label stands in the text and how long it is; the cost; the mask, if it has an M line; how many accesses there are,
+// and these.
 #[derive(Clone, Copy)]
 pub struct Row {
     pub place: u64,
     pub size: u64,
     pub cost: u64,
-    pub mask: u64,
+    pub mask: Option<u64>,
     pub count: u64,
+    pub accesses: [Access; layout::MOST_TASK_ACCESSES],
 }
 
-// One access to an address: `writes` is 1 for a writer, else 0.
-#[derive(Clone, Copy)]
-pub struct Touch {
-    pub writes: u64,
-    pub address: u64,
-}
+// An access that is not there.
+const NO_ACCESS: Access = Access {
+    writes: false,
+    address: 0,
+};
 
-// Keeps the row of task i, as far as the rows reach.
-pub fn keep_task(rows: &mut [u64], i: usize, row: &[u64])
-    requires { (i ≤ lay.most_tasks) × (length row.now ≡ lay.task_row) }
-    ensures { rows.new ≡ sets rows.old (lay.task_row * i) row.now }
+// A row of no task.
+pub const BLANK: Row = Row {
+    place: 0,
+    size: 0,
+    cost: 0,
+    mask: None,
+    count: 0,
+    accesses: [NO_ACCESS; layout::MOST_TASK_ACCESSES],
+};
+
+// Keeps the mask of task i, as far as the rows reach.
+pub fn keep_mask(rows: &mut [Row], i: usize, mask: u64)
+    ensures { rows.new ≡ with_mask rows.old i mask }
 {
-    let at = layout::TASK_ROW * i;
-    let mut k: usize = 0;
-    while k < row.len() {
-        put(rows, at + k, row[k]);
-        k += 1;
-    }
-}
-
-// Sets the mask of task i, as far as the rows reach.
-pub fn keep_mask(rows: &mut [u64], i: usize, mask: u64)
-    requires { i ≤ lay.most_tasks }
-    ensures { rows.new ≡ set rows.old (lay.task_row * i + lay.mask) mask }
-{
-    put(rows, layout::TASK_ROW * i + layout::MASK, mask);
-}
-
-// The row of task i.
-pub fn row_at(rows: &[u64], i: usize) -> Row
-    requires { (length rows.now ≡ lay.task_rows) × (i < lay.most_tasks) }
-    ensures { result ≡ row_at rows.now i }
-{
-    let at = layout::TASK_ROW * i;
-    Row {
-        place: rows[at + layout::PLACE],
-        size: rows[at + layout::SIZE],
-        cost: rows[at + layout::COST],
-        mask: rows[at + layout::MASK],
-        count: rows[at + layout::COUNT],
-    }
-}
-
-// Access k of task i.
-pub fn touch_at(rows: &[u64], i: usize, k: usize) -> Touch
-    requires { (length rows.now ≡ lay.task_rows) × (i < lay.most_tasks) × (k < lay.most_task_accesses) }
-    ensures { result ≡ touch_at rows.now i k }
-{
-    let at = layout::TASK_ROW * i + layout::ACCESSES + layout::ACCESS_ROW * k;
-    Touch {
-        writes: rows[at],
-        address: rows[at + 1],
+    if i < rows.len() {
+        rows[i].mask = Some(mask);
     }
 }
 
@@ -76,13 +46,7 @@ pub fn touch_at(rows: &[u64], i: usize, k: usize) -> Touch
 pub fn label(text: &[u8], start: usize, len: usize) -> &[u8]
     ensures { result.now ≡ label_at text.now start len }
 {
-    let size = text.len();
-    if size <= start {
-        return &text[size..];
-    }
-    if size - start <= len {
-        return &text[start..];
-    }
-    let end = start + len;
-    &text[start..end]
+    let start = start.min(text.len());
+    let rest = &text[start..];
+    &rest[..len.min(rest.len())]
 }

@@ -1,9 +1,9 @@
 -- The owner of the lock and the worker that is due are those whose places say so.
-use Prim.Native.Nat.{ℕ, ◌+◌, ◌*◌, ◌-◌, ◌≤◌, ◌<◌}
+use Prim.Native.Nat.{ℕ, ◌+◌, ◌*◌, ◌≤◌, ◌<◌}
 use native.Mathlib.Omega.{arith}
 use mathlib.Core.Path.{◌≡◌, refl, sym, ap, ◌∙◌}
-use mathlib.Core.Bool.{false}
-use mathlib.Core.Option.{Option, none, some}
+use mathlib.Core.Logic.{◌⊎◌, inl, inr}
+use mathlib.Core.Bool.{true, false}
 use mathlib.Core.List.{List}
 use lib.ListN.{get_or}
 use lib.Dec.{leb}
@@ -13,12 +13,11 @@ use Rattle.lock.specs.Lock as L
 use Rattle.lock.specs.Arrays.{lock_of}
 use Rattle.lock.specs.Answers.{seen}
 use Rattle.lock.specs.declared.Looked.{Looked}
+use Rattle.lock.specs.declared.Looked.TheVariants.{Owns}
 use Rattle.machine.specs.State.{Setup, State, for_serving, for_adding}
 use Rattle.machine.specs.State.{Place, idle, trying, registering, looking, draining, serving, handing, leaving}
 use Rattle.machine.specs.declared.Leader.{Leader}
-use Rattle.machine.specs.declared.Leader.TheVariants.{Nobody, Owner, Due}
 use Rattle.machine.specs.Whereabouts.{lock_stand, is_owner, wins, is_due, owner, due, leads, leader}
-use Rattle.memory.specs.Codes.{option_code}
 use Rattle.steps.specs.Layout.{share_size, place_at, number_at, REGISTERING, LOOKING, SERVING}
 use Rattle.steps.specs.Codes.{Coded}
 use Rattle.steps.specs.Memory.{share, station, Memory, Holds}
@@ -72,73 +71,29 @@ module _ (store : List ℕ) (workers : ℕ) (c : Setup) (m : Memory) (s : State)
 -- ---- one worker
 
 module _ (slots : ℕ) (l : L.Lock) (place ticket w : ℕ) where
-  -- its place is before those with a ticket, or after them
-  pub due_before : place < REGISTERING → false ≡ due_at slots l place ticket w
-  due_before h = rw (lt-leb REGISTERING place h) refl
+  -- it is at another place than those with a ticket
+  pub due_nowhere : (place < REGISTERING) ⊎ ((REGISTERING ≤ place) × (LOOKING < place)) → false ≡ due_at slots l place ticket w
+  due_nowhere (inl h) = rw (lt-leb REGISTERING place h) refl
+  due_nowhere (inr h) = rw (le-leb REGISTERING place h.0, lt-leb place LOOKING h.1) refl
 
-  pub due_after : REGISTERING ≤ place → LOOKING < place → false ≡ due_at slots l place ticket w
-  due_after g h = rw (le-leb REGISTERING place g, lt-leb place LOOKING h) refl
+  -- it has one, and its look wins
+  pub due_owns : REGISTERING ≤ place → place ≤ LOOKING → (r : Looked) → seen r ≡ L.look slots l ticket w → r ≡ Owns
+      → true ≡ due_at slots l place ticket w
+  due_owns g h r sees e = rw (le-leb REGISTERING place g, le-leb place LOOKING h) (ap wins (ap seen (sym e) ∙ sees))
 
-  -- it has one: what a look tells
-  pub due_seen : REGISTERING ≤ place → place ≤ LOOKING → (r x : Looked) → seen r ≡ L.look slots l ticket w → r ≡ x
-      → wins (seen x) ≡ due_at slots l place ticket w
-  due_seen g h r x sees e = rw (le-leb REGISTERING place g, le-leb place LOOKING h) (ap wins (ap seen (sym e) ∙ sees))
-
--- ---- who leads, by both numbers
-
-lead_owner : (o d : Option ℕ) (n : ℕ) → n ≡ option_code o → 0 < n → Owner (n - 1) ≡ leads o d
-lead_owner none d n e l = absurd (omega arith)
-lead_owner (some w) d n e l = let same : n - 1 ≡ w = omega arith in ap Owner same
-
-lead_due : (o d : Option ℕ) (n k : ℕ) → n ≡ option_code o → n ≤ 0 → k ≡ option_code d → 0 < k → Due (k - 1) ≡ leads o d
-lead_due (some v) d n k e z f l = absurd (omega arith)
-lead_due none none n k e z f l = absurd (omega arith)
-lead_due none (some w) n k e z f l = let same : k - 1 ≡ w = omega arith in ap Due same
-
-lead_nobody : (o d : Option ℕ) (n k : ℕ) → n ≡ option_code o → n ≤ 0 → k ≡ option_code d → k ≤ 0 → Nobody ≡ leads o d
-lead_nobody (some v) d n k e z f l = absurd (omega arith)
-lead_nobody none (some w) n k e z f l = absurd (omega arith)
-lead_nobody none none n k e z f l = refl
+-- ---- who leads, by what was found
 
 module _ (n : Counts) (store wait tickets cells : List ℕ) where
-  abbrev owning : Option ℕ
-  owning = last_below (owns_in store) n.workers
-
-  -- whatever the numbers that a look doesn't compare
-  abbrev dues : ℕ → ℕ → List ℕ → Option ℕ
-  dues head tail registrations =
-      last_below (due_in n.slots (lock_of n.slots head tail wait registrations tickets cells) store) n.workers
-
-  -- what is told by the numbers, and that it is so of the state that they hold
-  abbrev Told : Leader → Type 0
-  Told r =
-      ((head tail : ℕ) (registrations : List ℕ) → r ≡ leads owning (dues head tail registrations))
-      × ((m : Memory) (c : Setup) (s : State) → Holds c (with_seen m n wait tickets cells m.rows) (share store) s → r ≡ leader c s)
-
-  told : (r : Leader) → ((head tail : ℕ) (registrations : List ℕ) → r ≡ leads owning (dues head tail registrations)) → Told r
-  told r is = (
-    is,
-    λ m c s h.
-        let lock : lock_of n.slots n.ends.head.0 n.ends.tail.0 wait m.registrations tickets cells ≡ s.lock =
-        rw h.device.slots h.lock in
-        let its_owner = owner_is store n.workers c _ s h h.device.workers in
-        let its_due = due_is store n.workers c _ s h h.device.workers in
-        rw (lock, h.device.slots, its_owner, its_due) at (is n.ends.head.0 n.ends.tail.0 m.registrations),
-  )
-
-  -- o is what was found of an owner, d of a worker that is due
-  module _ (o : ℕ) (owns : o ≡ option_code owning) where
-    pub owner_told : 0 < o → Told (Owner (o - 1))
-    owner_told l = told (Owner (o - 1)) (λ head tail registrations. lead_owner owning (dues head tail registrations) o owns l)
-
-    module _ (nobody : o ≤ 0) (d : ℕ)
-        (found : (head tail : ℕ) (registrations : List ℕ) → d ≡ option_code (dues head tail registrations)) where
-      pub due_told : 0 < d → Told (Due (d - 1))
-      due_told l =
-          told (Due (d - 1)) (λ head tail registrations.
-          lead_due owning (dues head tail registrations) o d owns nobody (found head tail registrations) l)
-
-      pub nobody_told : d ≤ 0 → Told Nobody
-      nobody_told l =
-          told Nobody (λ head tail registrations.
-          lead_nobody owning (dues head tail registrations) o d owns nobody (found head tail registrations) l)
+  -- what is told by the numbers is so of the state that they hold, whatever the numbers that a look doesn't compare
+  pub told : (r : Leader)
+      → ((head tail : ℕ) (registrations : List ℕ)
+      → r
+      ≡ leads (last_below (owns_in store) n.workers)
+      (last_below (due_in n.slots (lock_of n.slots head tail wait registrations tickets cells) store) n.workers))
+      → (m : Memory) (c : Setup) (s : State) → Holds c (with_seen m n wait tickets cells m.rows) (share store) s → r ≡ leader c s
+  told r is m c s h =
+      let lock : lock_of n.slots n.ends.head.0 n.ends.tail.0 wait m.registrations tickets cells ≡ s.lock =
+      rw h.device.slots h.lock in
+      let its_owner = owner_is store n.workers c _ s h h.device.workers in
+      let its_due = due_is store n.workers c _ s h h.device.workers in
+      rw (lock, h.device.slots, its_owner, its_due) at (is n.ends.head.0 n.ends.tail.0 m.registrations)

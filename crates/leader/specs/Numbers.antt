@@ -1,8 +1,14 @@
 -- Who owns the lock and who is due, by the numbers of the store.
-use Rattle.std.specs.Prelude.{ℕ, ◌+◌, ◌*◌, Bool, ◌&&◌, List, get_or, leb}
+use Rattle.std.specs.Prelude.{ℕ, ◌+◌, ◌*◌, Bool, ◌&&◌, List, get_or, leb, Option, None, Some}
+use Rattle.std.proofs.Math.Option as maybe
 use Rattle.lock.specs.Lock as L
 use Rattle.machine.specs.Whereabouts.{wins}
 use Rattle.steps.specs.Layout.{share_size, place_at, number_at, REGISTERING, LOOKING, SERVING}
+
+-- whom a search found
+abbrev pub found : Option ℕ → maybe.Option ℕ
+found None = maybe.none
+found (Some w) = maybe.some w
 
 abbrev pub place_in : List ℕ → ℕ → ℕ
 place_in store w = get_or store (w * share_size + place_at) 0

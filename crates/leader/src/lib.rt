@@ -2,16 +2,15 @@
 
 #![tactic(auto)]
 
-ghost use Rattle.std.specs.Prelude.{◌≡◌, List, ℕ, ◌≤◌, ◌<◌, length};
+ghost use Rattle.std.specs.Prelude.{◌≡◌, List, ℕ, ◌≤◌, ◌<◌, leb, length};
 ghost use Rattle.runs.specs.Searches.{last_below};
 ghost use Rattle.lock.specs.Arrays.{lock_of};
-ghost use Rattle.memory.specs.Codes.{option_code};
 ghost use Rattle.machine.specs.State.{Setup, State};
 ghost use Rattle.machine.specs.Whereabouts.{leads, leader};
 ghost use Rattle.steps.specs.Layout.{shares_size, most_workers};
 ghost use Rattle.steps.specs.Memory.{share, Memory, Holds};
 ghost use Rattle.lock_steps.specs.Lent.{with_seen};
-ghost use Rattle.leader.specs.Numbers.{owns_in, due_at, due_in};
+ghost use Rattle.leader.specs.Numbers.{found, owns_in, due_at, due_in};
 
 use lock::{Looked, Ticket, Worker, look};
 use machine::Leader;
@@ -19,21 +18,21 @@ use memory::layout::SHARE;
 use steps::Counts;
 use steps::layout::{LOOKING, NUMBER, PLACE, REGISTERING, SERVING};
 
-// The owner's number and 1 more, or 0. An owner's places are those from SERVING on.
-fn find_owner(store: &[u64], workers: u64) -> u64
-    requires { (shares_size ≤ length store.now) × (workers ≤ most_workers) }
-    ensures { result ≡ option_code (last_below (owns_in store.now) workers) }
+// Whether a worker at this place owns the lock: an owner's places are those from SERVING on.
+fn is_owner(place: u64) -> bool
+    ensures { result ≡ leb SERVING place }
 {
-    let mut w = workers;
-    while 0 < w {
-        let at = (w - 1) as usize * SHARE + PLACE;
-        let place = store[at];
-        if SERVING <= place {
-            return w;
-        }
-        w -= 1;
-    }
-    0
+    SERVING <= place
+}
+
+// The owner's number.
+fn find_owner(store: &[u64], workers: u64) -> Option<u64>
+    requires { (shares_size ≤ length store.now) × (workers ≤ most_workers) }
+    ensures { found result ≡ last_below (owns_in store.now) workers }
+{
+    (0..workers)
+        .rev()
+        .find(|&w| is_owner(store[w as usize * SHARE + PLACE]))
 }
 
 // Whether a worker at this place has a ticket, registered or not, with which a look wins the lock.
@@ -51,20 +50,16 @@ fn is_due(
         result ≡ due_at slots (lock_of slots head tail wait.now registrations tickets.now cells.now)
         place ticket w }
 {
-    if place < REGISTERING {
+    if place < REGISTERING || LOOKING < place {
         return false;
     }
-    if LOOKING < place {
-        return false;
-    }
-    match look(slots, wait, tickets, cells, Ticket(ticket), Worker(w)) {
-        Looked::NotYet => false,
-        Looked::Receives(_) => false,
-        Looked::Owns => true,
-    }
+    matches!(
+        look(slots, wait, tickets, cells, Ticket(ticket), Worker(w)),
+        Looked::Owns
+    )
 }
 
-// The number of the worker that is due and 1 more, or 0.
+// The number of the worker that is due.
 fn find_due(
     store: &[u64],
     workers: u64,
@@ -72,31 +67,25 @@ fn find_due(
     wait: &[u64],
     tickets: &[u64],
     cells: &[u64],
-) -> u64
+) -> Option<u64>
     requires { (shares_size ≤ length store.now) × (workers ≤ most_workers) × (0 < slots) × (slots ≤ length wait.now)
         × (most_workers ≤ length tickets.now) × (most_workers ≤ length cells.now) }
-    ensures { (head tail : ℕ) (registrations : List ℕ) → result ≡ option_code (last_below
+    ensures { (head tail : ℕ) (registrations : List ℕ) → found result ≡ last_below
         (due_in slots (lock_of slots head tail wait.now registrations tickets.now cells.now)
-        store.now) workers) }
+        store.now) workers }
 {
-    let mut w = workers;
-    while 0 < w {
-        let v = w - 1;
-        let at = v as usize * SHARE;
-        if is_due(
+    (0..workers).rev().find(|&w| {
+        let at = w as usize * SHARE;
+        is_due(
             store[at + PLACE],
             store[at + NUMBER],
             slots,
             wait,
             tickets,
             cells,
-            v,
-        ) {
-            return w;
-        }
-        w -= 1;
-    }
-    0
+            w,
+        )
+    })
 }
 
 // The owner; where nobody owns, the worker that is due; else nobody.
@@ -111,13 +100,11 @@ pub fn find_leader(n: Counts, store: &[u64], wait: &[u64], tickets: &[u64], cell
         Holds c (with_seen m n wait.now tickets.now cells.now m.rows) (share store.now) s →
         result ≡ leader c s }
 {
-    let owner = find_owner(store, n.workers);
-    if 0 < owner {
-        return Leader::Owner(owner - 1);
+    if let Some(owner) = find_owner(store, n.workers) {
+        return Leader::Owner(owner);
     }
-    let due = find_due(store, n.workers, n.slots, wait, tickets, cells);
-    if 0 < due {
-        return Leader::Due(due - 1);
+    match find_due(store, n.workers, n.slots, wait, tickets, cells) {
+        Some(due) => Leader::Due(due),
+        None => Leader::Nobody,
     }
-    Leader::Nobody
 }

@@ -1,4 +1,5 @@
 pub mod Wholes
+pub mod Judged
 pub mod Touches
 pub mod Heads
 pub mod Letters

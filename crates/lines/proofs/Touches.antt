@@ -1,62 +1,65 @@
--- The accesses of a task's line, one after the other: what is counted, kept and noticed of them, and the line's fault.
-use Prim.Native.Nat.{ℕ, suc, ◌+◌, ◌*◌, ◌-◌, ◌^◌, ◌≤◌, ◌<◌}
-use mathlib.Core.Path.{◌≡◌, refl, sym, ap, ap₂, ◌∙◌}
-use mathlib.Core.Bool.{Bool, true, false, cond, not, ◌&&◌, ◌||◌}
-use mathlib.Core.List.{List, [], ◌∷◌, ◌++◌, map}
-use mathlib.Core.Option.{none, some}
-use native.Mathlib.Omega.{arith}
-use lib.ListN.{length, get_or, set, replicate, length-append}
-use lib.Dec.{eqb, leb, ltb}
+-- The accesses of a task's line, one after the other: what is counted, kept and noticed of them, and how the line is judged.
+use Rattle.std.specs.Prelude.{Result, Ok, Err, ℕ, suc, ◌+◌, ◌-◌, ◌^◌, ◌≤◌, ◌<◌, ◌≡◌, refl, Bool, true, false, cond, not, ◌&&◌, ◌||◌, List, [], ◌∷◌, ◌++◌, map, length, set, replicate, take, eqb, leb, ltb}
+use Rattle.std.specs.List.{list_any}
+use Rattle.std.proofs.Common.{sym, ap, ap₂, ◌∙◌, arith, length-append}
+use Rattle.std.proofs.Math.Option.{none, some}
+use Rattle.std.proofs.Math.Seq.{take-append_seam}
+use Rattle.std.proofs.lemmas.List.{length-map}
 use borrow.Author.Tests.{le-ltb, le-leb, lt-leb, leb-true, leb-false, ltb-true, ltb-false, not-true}
+use Rattle.refusals.specs.declared.Refusal.{Refusal}
 use Rattle.refusals.specs.declared.Refusal.TheVariants.{OutOfRange, Misplaced, TooMany, AddressTwice}
 use Rattle.runs.specs.Every.{every, every_append}
 use Rattle.runs.specs.Tests.{ways, both_left, both_right, or_right}
 use Rattle.text.specs.Fields.{clipped}
-use Rattle.plan.specs.Plan.{Access, Plan}
-use Rattle.plan.specs.Line.{ask, access, repeats, at_start, has_orders, task_line}
+use Rattle.plan.specs.Plan.{Plan}
+use Rattle.plan.specs.declared.access.Access.{Access}
+use Rattle.plan.specs.Line.{ask, repeats, at_start, has_orders, task_line}
+use Rattle.plan.specs.PassFields.{held_access}
 use Rattle.plan.specs.Reading.{first_refusal}
 use Rattle.plan.proofs.Accepted.{granted}
-use Rattle.plan.specs.PassFields.{bit}
-use Rattle.kept.specs.Tasks.{access_numbers, Placed, row_of}
-use Rattle.kept.specs.TaskLaws.{number_at}
-use Rattle.lines.specs.declared.line.Fault.TheVariants.{Nothing, Is}
+use Rattle.kept.specs.declared.tasks.Row.{Row}
+use Rattle.kept.specs.Tasks.{Placed, no_access, spread, row_of}
 use Rattle.lines.specs.declared.accesses.Accesses.{Accesses}
-use Rattle.lines.specs.Lines.{fault_of, fault_in, task_of, head_fault, bare}
-use Rattle.lines.specs.Accesses.{counted, low_addresses, touches, with_accesses, Reads, task_fault}
-use Rattle.lines.proofs.Wholes.{above_below, low_clipped}
+use Rattle.lines.specs.declared.line.Kind.TheVariants as kinds
+use Rattle.lines.specs.Lines.{judged_by, judges, task_of, judges_head, bare}
+use Rattle.lines.specs.Accesses.{counted, low_addresses, touches, with_accesses, Reads}
+use Rattle.lines.specs.Judging.{judged_after}
+use Rattle.lines.proofs.Judged.{above_below, low_clipped}
 
 -- ---- the row
 
--- the address of access k
-pub address_at : (t : Placed) (xs : List Access) (k : ℕ) (d : Access) → k < length xs
-    → get_or (row_of (with_accesses t xs)) (5 + 2 * k + 1) 0 ≡ (get_or xs k d).address
-address_at t xs k d h =
-    let e : 5 + 2 * k + 1 ≡ suc (suc (suc (suc (suc (2 * k + 1))))) = omega arith in
-    rw e (number_at xs _ k d h).1
+-- the first of its accesses are the task's
+pub spread_first : (xs : List Access) → take (length xs) (spread xs) ≡ xs
+spread_first xs = take-append_seam xs (replicate (4 - length xs) no_access)
 
-numbers_more : (xs : List Access) (b : Bool) (address m : ℕ)
-    → set (set (access_numbers xs ++ replicate (2 * suc m) 0) (2 * length xs) (bit b)) (2 * length xs + 1) address
-    ≡ access_numbers (xs ++ access b address ∷ []) ++ replicate (2 * m) 0
-unfolding access_numbers
-numbers_more [] b address m = let e : 2 * suc m ≡ suc (suc (2 * m)) = omega arith in rw e
-numbers_more (x ∷ xs) b address m =
-    let e : 2 * suc (length xs) ≡ suc (suc (2 * length xs)) = omega arith in
-    let f : 2 * suc (length xs) + 1 ≡ suc (suc (2 * length xs + 1)) = omega arith in
-    rw (f, e) (ap (λ (l : List ℕ). bit x.writes ∷ x.address ∷ l) (numbers_more xs b address m))
+-- one of them is to the address
+pub any_touches : (address : ℕ) (xs : List Access) → list_any (λ a. eqb a.address address) xs ≡ touches xs address
+unfolding every
+any_touches address [] = refl
+any_touches address (x ∷ xs) =
+    ap (λ (b : Bool). eqb x.address address || b) (any_touches address xs) ∙ by (eqb x.address address) (every (λ a. not (eqb a.address address)) xs)
+  where
+    by : (b c : Bool) → (b || not c) ≡ not (not b && c)
+    by true c = refl
+    by false c = refl
 
--- one access more
-row_more : (t : Placed) (xs : List Access) (b : Bool) (address : ℕ) → length xs < 4
-    → set (set (set (row_of (with_accesses t xs)) (5 + 2 * length xs) (bit b)) (5 + 2 * length xs + 1) address) 4 (length xs + 1)
-    ≡ row_of (with_accesses t (xs ++ access b address ∷ []))
-row_more t xs b address h =
-    let n = length-append xs (access b address ∷ []) in
-    let e : 5 + 2 * length xs ≡ suc (suc (suc (suc (suc (2 * length xs))))) = omega arith in
-    let f : 5 + 2 * length xs + 1 ≡ suc (suc (suc (suc (suc (2 * length xs + 1))))) = omega arith in
+spread_more : (xs : List Access) (a : Access) (m : ℕ)
+    → set (xs ++ replicate (suc m) no_access) (length xs) a ≡ (xs ++ a ∷ []) ++ replicate m no_access
+spread_more [] a m = refl
+spread_more (x ∷ xs) a m = ap (λ (l : List Access). x ∷ l) (spread_more xs a m)
+
+-- a row with one access more after the first n
+abbrev pub one_more : Row → ℕ → Access → Row
+one_more row n a =
+    record { place = row.place; size = row.size; cost = row.cost; mask = row.mask; count = n + 1; accesses = set row.accesses n a }
+
+row_more : (t : Placed) (xs : List Access) (a : Access) → length xs < 4
+    → one_more (row_of (with_accesses t xs)) (length xs) a ≡ row_of (with_accesses t (xs ++ a ∷ []))
+row_more t xs a h =
+    let n = length-append xs (a ∷ []) in
     let before : 4 - length xs ≡ suc (3 - length xs) = omega arith in
-    let after : 4 - length (xs ++ access b address ∷ []) ≡ 3 - length xs = omega arith in
-    rw (f, e, before, after, n)
-    (ap (λ (l : List ℕ). t.at ∷ length t.task.label ∷ t.task.cost ∷ 0 ∷ (length xs + 1) ∷ l)
-    (numbers_more xs b address (3 - length xs)))
+    let after : 4 - length (xs ++ a ∷ []) ≡ 3 - length xs = omega arith in
+    rw (before, after, n, spread_more xs a (3 - length xs)) refl
 
 -- ---- what is noticed
 
@@ -74,12 +77,11 @@ repeats_more (b ∷ xs) a =
     (again_by (every (λ (c : Access). not (eqb b.address c.address)) xs) (eqb b.address a.address) (repeats xs)
     (every (λ c. not (eqb c.address a.address)) xs))
 
-out_more : (xs : List Access) (b : Bool) (address : ℕ)
-    → (not (low_addresses xs) || ltb 65535 address) ≡ not (low_addresses (xs ++ access b address ∷ []))
+out_more : (xs : List Access) (a : Access) → (not (low_addresses xs) || ltb 65535 a.address) ≡ not (low_addresses (xs ++ a ∷ []))
 unfolding every
-out_more xs b address =
-    rw (every_append (λ (a : Access). leb a.address 65535) xs (access b address ∷ []), above_below 65535 address)
-    (go (low_addresses xs) (leb address 65535))
+out_more xs a =
+    rw (every_append (λ (b : Access). leb b.address 65535) xs (a ∷ []), above_below 65535 a.address)
+    (go (low_addresses xs) (leb a.address 65535))
   where
     go : (a b : Bool) → (not a || not b) ≡ not (a && (b && true))
     go true true = refl
@@ -88,15 +90,18 @@ out_more xs b address =
 
 -- ---- one access more is read
 
-module _ {t : Placed} {xs : List Access} {a : Accesses} {row : List ℕ} (so : Reads t xs a row) (b : Bool) (address : ℕ) where
+module _ {t : Placed} {xs : List Access} {a : Accesses} {row : Row} (so : Reads t xs a row) (access : Access) where
   abbrev more : List Access
-  more = xs ++ access b address ∷ []
+  more = xs ++ access ∷ []
 
   more_length : length more ≡ length xs + 1
-  more_length = length-append xs (access b address ∷ [])
+  more_length = length-append xs (access ∷ [])
+
+  more_out : {out : Bool} → out ≡ (a.out || ltb 65535 access.address) → out ≡ not (low_addresses more)
+  more_out e = e ∙ ap (λ (x : Bool). x || ltb 65535 access.address) so.out ∙ out_more xs access
 
   -- four are there already
-  pub reads_fifth : 4 ≤ a.count → {out : Bool} → out ≡ (a.out || ltb 65535 address)
+  pub reads_fifth : 4 ≤ a.count → {out : Bool} → out ≡ (a.out || ltb 65535 access.address)
       → Reads t more (record { count = 5; out = out; again = a.again }) row
   reads_fifth h {out} e =
       let many : 4 ≤ length xs = ways (leb (length xs) 4)
@@ -104,7 +109,7 @@ module _ {t : Placed} {xs : List Access} {a : Accesses} {row : List ℕ} (so : R
       let five = lt-leb (length more) 4 (omega (arith, more_length)) in
       record {
         count = simp five;
-        out = e ∙ ap (λ (x : Bool). x || ltb 65535 address) so.out ∙ out_more xs b address;
+        out = more_out e;
         again = λ l. absurd (omega (arith, more_length));
         kept = λ l. absurd (omega (arith, more_length));
       }
@@ -123,18 +128,17 @@ module _ {t : Placed} {xs : List Access} {a : Accesses} {row : List ℕ} (so : R
     pub reads_row : row ≡ row_of (with_accesses t xs)
     reads_row = so.kept (omega (arith, few))
 
-    pub reads_more : {out again : Bool} → out ≡ (a.out || ltb 65535 address) → again ≡ (a.again || touches xs address)
-        → Reads t more (record { count = a.count + 1; out = out; again = again })
-        (set (set (set row (5 + 2 * a.count) (bit b)) (5 + 2 * a.count + 1) address) 4 (a.count + 1))
+    pub reads_more : {out again : Bool} → out ≡ (a.out || ltb 65535 access.address) → again ≡ (a.again || touches xs access.address)
+        → Reads t more (record { count = a.count + 1; out = out; again = again }) (one_more row a.count access)
     reads_more e f =
         let four = le-leb (length more) 4 (omega (arith, more_length, few)) in
         record {
           count = simp four (omega (arith, reads_count, more_length));
-          out = e ∙ ap (λ (x : Bool). x || ltb 65535 address) so.out ∙ out_more xs b address;
+          out = more_out e;
           again =
-              λ k. f ∙ ap (λ (x : Bool). x || touches xs address) (so.again (omega (arith, few)))
-              ∙ sym (repeats_more xs (access b address));
-          kept = λ k. rw (← reads_count, reads_row) (row_more t xs b address few);
+              λ k. f ∙ ap (λ (x : Bool). x || touches xs access.address) (so.again (omega (arith, few)))
+              ∙ sym (repeats_more xs access);
+          kept = λ k. rw (← reads_count, reads_row) (row_more t xs access few);
         }
 
 -- ---- addresses of any size, as 64 bits hold them
@@ -148,7 +152,7 @@ clip_low v =
 
 -- accesses as the code sees them
 abbrev pub seen : List Access → List Access
-seen xs = map (λ a. access a.writes (clipped a.address)) xs
+seen xs = map held_access xs
 
 seen_low : (xs : List Access) → low_addresses (seen xs) ≡ low_addresses xs
 unfolding every
@@ -164,33 +168,31 @@ seen_same (a ∷ xs) e =
     rw (q, seen_same xs (both_right (leb a.address 65535) (low_addresses xs) e))
 
 seen_length : (xs : List Access) → length (seen xs) ≡ length xs
-seen_length [] = refl
-seen_length (a ∷ xs) = ap suc (seen_length xs)
+seen_length xs = length-map xs held_access
 
--- ---- the fault of the line
+-- ---- how the line is judged
 
-fault_by_lem : (m c l q r s : Bool) (a : Accesses) (n : ℕ) → a.out ≡ not l → leb 128 n ≡ not q → ltb 4 a.count ≡ not r
+judged_lem : (m c l q r s : Bool) (a : Accesses) (n : ℕ) → a.out ≡ not l → leb 128 n ≡ not q → ltb 4 a.count ≡ not r
     → (l ≡ true → r ≡ true → a.again ≡ s)
-    → task_fault (fault_of (first_refusal (ask m Misplaced ∷ ask c OutOfRange ∷ []))) a n
-    ≡ fault_of (first_refusal (ask m Misplaced ∷ ask (c && l) OutOfRange ∷ ask (q && r) TooMany ∷ ask (not s) AddressTwice ∷ []))
+    → judged_after (judged_by (first_refusal (ask m Misplaced ∷ ask c OutOfRange ∷ []))) kinds.Task a n
+    ≡ judged_by (first_refusal (ask m Misplaced ∷ ask (c && l) OutOfRange ∷ ask (q && r) TooMany ∷ ask (not s) AddressTwice ∷ []))
 unfolding first_refusal
-fault_by_lem false c l q r s a n out tasks count again = refl
-fault_by_lem true false l q r s a n out tasks count again = refl
-fault_by_lem true true false q r s a n out tasks count again = simp out
-fault_by_lem true true true false r s a n out tasks count again = simp (out, tasks)
-fault_by_lem true true true true false s a n out tasks count again = simp (out, tasks, count)
-fault_by_lem true true true true true s a n out tasks count again = simp (out, tasks, count, again refl refl) (last s)
+judged_lem false c l q r s a n out tasks count again = refl
+judged_lem true false l q r s a n out tasks count again = refl
+judged_lem true true false q r s a n out tasks count again = simp out
+judged_lem true true true false r s a n out tasks count again = simp (out, tasks)
+judged_lem true true true true false s a n out tasks count again = simp (out, tasks, count)
+judged_lem true true true true true s a n out tasks count again = simp (out, tasks, count, again refl refl) (last s)
   where
-    last : (s : Bool) → cond s (Is AddressTwice) Nothing ≡ fault_of (cond (not s) none (some AddressTwice))
+    last : (s : Bool) → cond {A = Result (Unit {0}) Refusal} s (Err AddressTwice) (Ok tt) ≡ judged_by (cond (not s) none (some AddressTwice))
     last true = refl
     last false = refl
 
-module _ (p : Plan) (label : List ℕ) (cost : ℕ) (xs : List Access) {t : Placed} {a : Accesses} {row : List ℕ}
+module _ (p : Plan) (label : List ℕ) (cost : ℕ) (xs : List Access) {t : Placed} {a : Accesses} {row : Row}
     (so : Reads t (seen xs) a row) where
-  pub task_fault_lem : task_fault (head_fault p cost) a (length p.tasks)
-      ≡ fault_in (task_line p (task_of label cost xs))
-  task_fault_lem =
-      fault_by_lem (not (at_start p || has_orders p)) (leb cost 1000) (low_addresses xs) (ltb (length p.tasks) 128) (leb (length xs) 4)
+  pub task_judged_lem : judged_after (judges_head p cost) kinds.Task a (length p.tasks) ≡ judges (task_line p (task_of label cost xs))
+  task_judged_lem =
+      judged_lem (not (at_start p || has_orders p)) (leb cost 1000) (low_addresses xs) (ltb (length p.tasks) 128) (leb (length xs) 4)
       (repeats xs) a (length p.tasks) (so.out ∙ ap not (seen_low xs)) (not_below (length p.tasks)) many
       (λ l r. so.again (omega (arith, seen_length xs, leb-true (length xs) 4 r)) ∙ ap repeats (seen_same xs l))
     where
@@ -218,7 +220,7 @@ module _ (p : Plan) (label : List ℕ) (cost : ℕ) (xs : List Access) {t : Plac
     task_few = leb-true _ _ (both_right (ltb (length p.tasks) 128) (leb (length xs) 4) in_range_lem.1)
 
 -- and its row is the one in hand
-pub task_row_lem : (p : Plan) (label : List ℕ) (cost : ℕ) (xs : List Access) (at : ℕ) {a : Accesses} {row : List ℕ}
+pub task_row_lem : (p : Plan) (label : List ℕ) (cost : ℕ) (xs : List Access) (at : ℕ) {a : Accesses} {row : Row}
     → Reads (bare at label cost) (seen xs) a row
     → first_refusal (task_line p (task_of label cost xs)).asks ≡ none
     → row ≡ row_of (record { at = at; task = task_of label cost xs })

@@ -1,12 +1,12 @@
 -- The code's view of a task's accesses.
-use Rattle.std.specs.Prelude.{ℕ, ◌≤◌, ◌≡◌, Bool, cond, not, ◌||◌, List, length, eqb, leb, ltb}
+use Rattle.std.specs.Prelude.{Result, Ok, Err, ℕ, ◌≤◌, ◌≡◌, Bool, cond, not, ◌||◌, List, length, eqb, leb, ltb}
+use Rattle.refusals.specs.declared.Refusal.{Refusal}
 use Rattle.refusals.specs.declared.Refusal.TheVariants.{OutOfRange, TooMany, AddressTwice}
 use Rattle.runs.specs.Every.{every}
-use Rattle.plan.specs.Plan.{Access}
+use Rattle.plan.specs.declared.access.Access.{Access}
 use Rattle.plan.specs.Line.{repeats}
+use Rattle.kept.specs.declared.tasks.Row.{Row}
 use Rattle.kept.specs.Tasks.{Placed, row_of}
-use Rattle.lines.specs.declared.line.Fault.{Fault}
-use Rattle.lines.specs.declared.line.Fault.TheVariants.{Nothing, Is}
 use Rattle.lines.specs.declared.accesses.Accesses.{Accesses}
 use Rattle.lines.specs.Lines.{task_of}
 
@@ -25,17 +25,13 @@ abbrev pub with_accesses : Placed → List Access → Placed
 with_accesses t xs = record { at = t.at; task = task_of t.task.label t.task.cost xs }
 
 -- xs is read of the accesses of t, whose row is in hand
-pub record Reads (t : Placed) (xs : List Access) (a : Accesses) (row : List ℕ) : Type 0 where
+pub record Reads (t : Placed) (xs : List Access) (a : Accesses) (row : Row) : Type 0 where
   pub count : a.count ≡ counted (length xs)
   pub out : a.out ≡ not (low_addresses xs)
   pub again : length xs ≤ 4 → a.again ≡ repeats xs
   pub kept : length xs ≤ 4 → row ≡ row_of (with_accesses t xs)
 
--- the fault of a task's line, where place and cost have none: it is task number n
-abbrev pub limits_of : Accesses → ℕ → Fault
+-- how they are judged, in a line of which place and cost have no fault: it is task number n
+abbrev pub limits_of : Accesses → ℕ → Result (Unit {0}) Refusal
 limits_of a n =
-    cond a.out (Is OutOfRange) (cond (leb 128 n || ltb 4 a.count) (Is TooMany) (cond a.again (Is AddressTwice) Nothing))
-
-abbrev pub task_fault : Fault → Accesses → ℕ → Fault
-task_fault (Is r) a n = Is r
-task_fault Nothing a n = limits_of a n
+    cond a.out (Err OutOfRange) (cond (leb 128 n || ltb 4 a.count) (Err TooMany) (cond a.again (Err AddressTwice) (Ok tt)))

@@ -1,27 +1,29 @@
 -- The code's view of one line: what is answered for its fields.
-use Rattle.std.specs.Prelude.{ℕ, zero, suc, ◌+◌, ◌*◌, ◌≤◌, ◌<◌, ◌≡◌, refl, Bool, true, false, cond, not, ◌&&◌, ◌||◌, List, [], ◌∷◌, length, drop, replicate, leb, ltb}
+use Rattle.std.specs.Prelude.{Result, Ok, Err, ℕ, zero, suc, ◌+◌, ◌≤◌, ◌<◌, ◌≡◌, refl, Bool, true, false, cond, not, ◌&&◌, ◌||◌, List, [], ◌∷◌, length, drop, replicate, leb, ltb}
 use Rattle.std.proofs.Common.{sym, arith}
 use Rattle.std.proofs.Math.Bool.{and-false}
 use Rattle.std.proofs.Math.Option.{Option, none, some}
 use Rattle.std.proofs.lemmas.List.{length-replicate}
 use Rattle.refusals.specs.declared.Refusal.{Refusal}
-use Rattle.refusals.specs.declared.Refusal.TheVariants.{Malformed, OutOfRange, Misplaced}
-use Rattle.text.specs.Text.{within, number_of}
+use Rattle.refusals.specs.declared.Refusal.TheVariants.{OutOfRange, Misplaced}
+use Rattle.text.specs.declared.read.Malformed.{Malformed}
+use Rattle.text.specs.declared.read.Number.{Number}
+use Rattle.text.specs.Text.{number_of}
 use Rattle.text.specs.LineEnds.{Reaches}
-use Rattle.text.specs.Fields.{First, unended, first, first_line, Fields, clipped}
+use Rattle.text.specs.Fields.{First, unended, first, first_line, Fields, clipped, held}
 use Rattle.plan.specs.declared.form.Form.{Form}
 use Rattle.plan.specs.declared.form.Form.TheVariants.{Second}
-use Rattle.plan.specs.Plan.{Access, Task, Order, rounds, Plan, with_workers, with_mask, with_order}
+use Rattle.plan.specs.Plan.{Task, Plan, with_workers, with_mask, with_order}
+use Rattle.plan.specs.declared.access.Access.{Access}
+use Rattle.plan.specs.declared.order.Order.{Order}
+use Rattle.plan.specs.declared.order.Order.TheVariants.{Rounds as rounds}
 use Rattle.plan.specs.Permits.{is_masked}
 use Rattle.plan.specs.Line as plans
 use Rattle.plan.specs.Line.{'T', ask, at_start, has_orders, ends_unmasked, after_task, is_label, label_and_cost}
 use Rattle.plan.specs.Line.{workers_line, order_line, task_line, line_of_fields}
 use Rattle.plan.specs.Reading.{first_refusal}
-use Rattle.kept.specs.Layout as layout
-use Rattle.kept.specs.Tasks.{Placed, spare, row_of, Labelled}
-use Rattle.kept.specs.Orders.{code_of, seed_of}
-use Rattle.lines.specs.declared.line.Fault.{Fault}
-use Rattle.lines.specs.declared.line.Fault.TheVariants.{Nothing, Is}
+use Rattle.kept.specs.declared.tasks.Row.{Row}
+use Rattle.kept.specs.Tasks.{Placed, row_of, Labelled}
 use Rattle.lines.specs.declared.line.Kind.{Kind}
 use Rattle.lines.specs.declared.line.Kind.TheVariants as kinds
 use Rattle.lines.specs.declared.line.Sofar.{Sofar}
@@ -73,100 +75,106 @@ some_plan s h = (
   },
 )
 
--- ---- faults
+-- ---- judging
 
-abbrev pub fault_of : Option Refusal → Fault
-fault_of none = Nothing
-fault_of (some r) = Is r
+abbrev pub judged_by : Option Refusal → Result (Unit {0}) Refusal
+judged_by none = Ok tt
+judged_by (some r) = Err r
 
--- the fault of a line that is of its form
-abbrev pub fault_in : plans.Line → Fault
-fault_in l = fault_of (first_refusal l.asks)
+-- how a line that is of its form is judged
+abbrev pub judges : plans.Line → Result (Unit {0}) Refusal
+judges l = judged_by (first_refusal l.asks)
 
--- the fault where the place of a line is judged before its numbers
-abbrev pub first_fault : Bool → Bool → Fault
-first_fault misplaced out = fault_of (first_refusal (ask (not misplaced) Misplaced ∷ ask (not out) OutOfRange ∷ []))
+-- the place of a line is judged before its numbers
+abbrev pub judges_first : Bool → Bool → Result (Unit {0}) Refusal
+judges_first misplaced out = judged_by (first_refusal (ask (not misplaced) Misplaced ∷ ask (not out) OutOfRange ∷ []))
 
 -- computed: where both are wrong
-pub both_wrong : first_fault true true ≡ Is Misplaced
+pub both_wrong : judges_first true true ≡ Err Misplaced
 unfolding first_refusal
 both_wrong = refl
 
--- a line that is not of its form; whether it goes on at the byte that shows it
-abbrev pub wrong_line : Bool → Line
-wrong_line more = record { kind = kinds.Wrong; first = 0; second = 0; fault = Is Malformed; next = 0; more = more }
+-- ---- the numbers that end a line
 
-abbrev pub is_wrong : Kind → Bool
-is_wrong kinds.Wrong = true
-is_wrong (kinds.Workers form) = false
-is_wrong kinds.Task = false
-is_wrong kinds.Mask = false
-is_wrong kinds.Order = false
+-- the fields of the line say nothing, or it has no end
+abbrev pub Formless : {B : Type 0} → (List (List ℕ) → Option B) → First → Type 0
+Formless says unended = Unit {0}
+Formless says (first fs rest) = says fs ≡ none
+
+-- the answer r of a reader for the fields from a place to the end of their line, n bytes of the text so far: what they say, as `value`
+-- gives it; or they say nothing, and are left at a byte that shows it, where the line goes on or has ended
+pub data Says {A B : Type 0} (value : B → A) (says : List (List ℕ) → Option B) (text : List ℕ) (at : ℕ) (r : Result A Malformed) (n : ℕ)
+    : Type 0 where
+  said : (fs : List (List ℕ)) (b : B) → says fs ≡ some b → Fields text at fs n false → r ≡ Ok (value b) → Says value says text at r n
+  unsaid : (more : Bool) → Formless says (first_line (drop at text)) → Reaches text at more n → r ≡ Err (record { goes_on = more })
+      → Says value says text at r n
+
+-- one number
+abbrev pub number_alone : List (List ℕ) → Option ℕ
+number_alone [] = none
+number_alone (f ∷ []) = number_of f
+number_alone (f ∷ g ∷ gs) = none
+
+-- and two
+abbrev pub pair_of : Option ℕ → Option ℕ → Option (ℕ × ℕ)
+pair_of none y = none
+pair_of (some m) none = none
+pair_of (some m) (some n) = some (m, n)
+
+abbrev pub numbers_alone : List (List ℕ) → Option (ℕ × ℕ)
+numbers_alone [] = none
+numbers_alone (f ∷ fs) = pair_of (number_of f) (number_alone fs)
+
+abbrev pub both_held : ℕ × ℕ → Number × Number
+both_held (m, n) = (held m, held n)
+
+-- the slots and the queue capacity of the second form
+abbrev pub sizes_held : ℕ × ℕ → Form
+sizes_held (m, n) = Second (clipped m) (clipped n)
 
 -- ---- a line that is read whole: W, M, P, R, S
 
--- the fields of the line are of no form, or it has no end
-abbrev pub Formless : (List (List ℕ) → Option plans.Line) → First → Type 0
-Formless form unended = Unit {0}
-Formless form (first fs rest) = form fs ≡ none
+-- a line that is not of its form; whether it goes on at the byte that shows it
+abbrev pub wrong_line : Bool → Result Line Malformed
+wrong_line more = Err (record { goes_on = more })
 
--- what a line without fault makes of p, with so few workers that the code of an order line fits, and an M line only after a task; a task's
+-- what a line without fault makes of p, with so few workers that a picked one has its number, and an M line only after a task; a task's
 -- is known once its accesses are
-abbrev pub Makes : Kind → ℕ → ℕ → Plan → Plan → Type 0
-Makes kinds.Wrong n second p q = ⊥
-Makes (kinds.Workers form) n second p q = (q ≡ with_workers p n form) × (n ≤ 32)
-Makes kinds.Task n second p q = ⊥
-Makes kinds.Mask m second p q = (q ≡ with_mask p m) × (0 < length p.tasks)
-Makes kinds.Order code seed p q = (o : Order) × (q ≡ with_order p o) × (code_of o ≡ code) × (seed_of o ≡ seed)
+abbrev pub Makes : Kind → Plan → Plan → Type 0
+Makes (kinds.Workers n form) p q = (q ≡ with_workers p n form) × (n ≤ 32)
+Makes kinds.Task p q = ⊥
+Makes (kinds.Mask m) p q = (q ≡ with_mask p m) × (0 < length p.tasks)
+Makes (kinds.Order o) p q = q ≡ with_order p o
 
 abbrev pub IsWhole : Kind → Type 0
-IsWhole kinds.Wrong = ⊥
-IsWhole (kinds.Workers form) = Unit {0}
+IsWhole (kinds.Workers n form) = Unit {0}
 IsWhole kinds.Task = ⊥
-IsWhole kinds.Mask = Unit {0}
-IsWhole kinds.Order = Unit {0}
+IsWhole (kinds.Mask m) = Unit {0}
+IsWhole (kinds.Order o) = Unit {0}
 
-pub record Formed (text : List ℕ) (at : ℕ) (p : Plan) (form : List (List ℕ) → Option plans.Line) (r : Line) (n : ℕ) : Type 0 where
+pub record Formed (text : List ℕ) (at : ℕ) (p : Plan) (form : List (List ℕ) → Option plans.Line) (r : Result Line Malformed) (n : ℕ)
+    : Type 0 where
   pub l : plans.Line
   pub fs : List (List ℕ)
   pub formed : form fs ≡ some l
   pub fields : Fields text at fs n false
-  pub after : r.next ≡ n
-  pub ended : r.more ≡ false
-  pub whole : IsWhole r.kind
-  pub judged : r.fault ≡ fault_in l
-  pub makes : first_refusal l.asks ≡ none → Makes r.kind r.first r.second p l.plan
+  pub line : Line
+  pub is : r ≡ Ok line
+  pub ended : line.more ≡ false
+  pub whole : IsWhole line.kind
+  pub judged : line.judged ≡ judges l
+  pub makes : first_refusal l.asks ≡ none → Makes line.kind p l.plan
+
+-- an order line, as it was read
+abbrev pub ordered : Order → Bool → Bool → Line
+ordered order misplaced out = record { kind = kinds.Order order; judged = judges_first misplaced out; more = false }
 
 -- the answer, after n looks at the text, for fields that begin at a place and are the line that `form` says
-pub data Whole (text : List ℕ) (at : ℕ) (p : Plan) (form : List (List ℕ) → Option plans.Line) (r : Line) (n : ℕ) : Type 0 where
+pub data Whole (text : List ℕ) (at : ℕ) (p : Plan) (form : List (List ℕ) → Option plans.Line) (r : Result Line Malformed) (n : ℕ)
+    : Type 0 where
   malformed : (more : Bool) → r ≡ wrong_line more → Formless form (first_line (drop at text)) → Reaches text at more n
       → Whole text at p form r n
   formed : Formed text at p form r n → Whole text at p form r n
-
--- the answer for a W line of a form, which ends before `next`
-abbrev pub read_workers : Plan → ℕ → Form → ℕ → Line
-read_workers p n form next =
-    record { kind = kinds.Workers form; first = n; second = 0; fault = fault_in (workers_line p n form); next = next; more = false }
-
--- the W line of the second form, by its numbers
-abbrev pub second_form : Plan → ℕ → ℕ → ℕ → plans.Line
-second_form p n slots capacity = workers_line p n (Second slots capacity)
-
--- an order line with this fault: without one it tells what is kept of it
-pub record Ordered (fault : Fault) (code seed next : ℕ) (r : Line) : Type 0 where
-  pub kind : r.kind ≡ kinds.Order
-  pub after : r.next ≡ next
-  pub ended : r.more ≡ false
-  pub judged : r.fault ≡ fault
-  pub tells : fault ≡ Nothing → (r.first ≡ code) × (r.second ≡ seed)
-
--- what is kept of the order of each count: who is picked, and the seed
-abbrev pub Coded : (ℕ → Order) → ℕ → ℕ → Type 0
-Coded order who seed = (n : ℕ) → (code_of (order n) ≡ n * layout.who + who) × (seed_of (order n) ≡ seed)
-
--- the order line of each count, where the number before it is in range or not
-abbrev pub count_line : Plan → Bool → ℕ → (ℕ → Order) → ℕ → plans.Line
-count_line p in_range most order n = order_line p (in_range && within 1 most n) (order n)
 
 -- ---- a task's line, of which label and cost are read
 
@@ -178,28 +186,25 @@ task_of label cost xs = record { label = label; cost = cost; accesses = xs; mask
 abbrev pub bare : ℕ → List ℕ → ℕ → Placed
 bare at label cost = record { at = at; task = task_of label (clipped cost) [] }
 
--- the row of a task whose label stands at a place and has so many bytes, without accesses
-abbrev pub bare_row : ℕ → ℕ → ℕ → List ℕ
-bare_row at size cost = at ∷ size ∷ cost ∷ 0 ∷ 0 ∷ spare layout.most_task_accesses
+-- how its place and its cost are judged
+abbrev pub judges_head : Plan → ℕ → Result (Unit {0}) Refusal
+judges_head p cost = judged_by (first_refusal (ask (not (at_start p || has_orders p)) Misplaced ∷ ask (leb cost 1000) OutOfRange ∷ []))
 
--- the fault of its place and its cost
-abbrev pub head_fault : Plan → ℕ → Fault
-head_fault p cost = fault_of (first_refusal (ask (not (at_start p || has_orders p)) Misplaced ∷ ask (leb cost 1000) OutOfRange ∷ []))
-
-pub record Begun (text : List ℕ) (at : ℕ) (p : Plan) (row : List ℕ) (r : Line) (n : ℕ) : Type 0 where
+pub record Begun (text : List ℕ) (at : ℕ) (p : Plan) (row : Row) (r : Result Line Malformed) (n : ℕ) : Type 0 where
+  pub line : Line
+  pub is : r ≡ Ok line
   pub label : List ℕ
   pub digits : List ℕ
   pub cost : ℕ
   pub labelled : is_label label ≡ true
   pub number : number_of digits ≡ some cost
-  pub fields : Fields text at (label ∷ digits ∷ []) n r.more
-  pub after : r.next ≡ n
+  pub fields : Fields text at (label ∷ digits ∷ []) n line.more
   pub stands : Labelled text (bare at label cost)
   pub kept : row ≡ row_of (bare at label cost)
-  pub judged : r.fault ≡ head_fault p cost
-  pub kind : r.kind ≡ kinds.Task
+  pub judged : line.judged ≡ judges_head p cost
+  pub kind : line.kind ≡ kinds.Task
 
-pub data TaskHead (text : List ℕ) (at : ℕ) (p : Plan) (row : List ℕ) (r : Line) (n : ℕ) : Type 0 where
+pub data TaskHead (text : List ℕ) (at : ℕ) (p : Plan) (row : Row) (r : Result Line Malformed) (n : ℕ) : Type 0 where
   malformed : (more : Bool) → r ≡ wrong_line more → Formless (label_and_cost (task_line p)) (first_line (drop at text)) → Reaches text at more n
       → TaskHead text at p row r n
   begun : Begun text at p row r n → TaskHead text at p row r n
@@ -207,6 +212,6 @@ pub data TaskHead (text : List ℕ) (at : ℕ) (p : Plan) (row : List ℕ) (r : 
 -- ---- any line
 
 -- the answer for the line that begins at a place: after its letter and a tab a task's label begins
-pub data LineAt (text : List ℕ) (at : ℕ) (p : Plan) (row : List ℕ) (r : Line) (n : ℕ) : Type 0 where
+pub data LineAt (text : List ℕ) (at : ℕ) (p : Plan) (row : Row) (r : Result Line Malformed) (n : ℕ) : Type 0 where
   whole : Whole text at p (line_of_fields p) r n → LineAt text at p row r n
-  task : (b : Begun text (at + 2) p row r n) → Fields text at (('T' ∷ []) ∷ b.label ∷ b.digits ∷ []) n r.more → LineAt text at p row r n
+  task : (b : Begun text (at + 2) p row r n) → Fields text at (('T' ∷ []) ∷ b.label ∷ b.digits ∷ []) n b.line.more → LineAt text at p row r n

@@ -1,14 +1,13 @@
 // The accesses of a task's line.
-ghost use Rattle.std.specs.Prelude.{◌≡◌, Bool, List, [], ◌∷◌, ◌++◌, ◌≤◌, length};
-ghost use Rattle.plan.specs.Plan.{Access};
-ghost use Rattle.plan.specs.Line.{access};
-ghost use Rattle.plan.specs.PassFields.{bit};
+ghost use Rattle.std.specs.Prelude.{◌≡◌, List, [], ◌∷◌, ◌++◌, ◌≤◌, length};
+ghost use Rattle.plan.specs.declared.access.Access.{Access};
 ghost use Rattle.kept.specs.Layout as lay;
 ghost use Rattle.kept.specs.Tasks.{Placed, row_of};
-ghost use Rattle.lines.specs.Accesses.{touches, with_accesses, Reads, task_fault};
+ghost use Rattle.lines.specs.Accesses.{touches, with_accesses, Reads, limits_of};
 
-use super::line::{Fault, either};
-use kept::layout;
+use kept::layout::{MOST_TASK_ACCESSES, MOST_TASKS};
+use kept::tasks::Row;
+use plan::access::Access;
 use refusals::Refusal;
 
 const MOST_ADDRESS: u64 = 65535;
@@ -16,8 +15,8 @@ const MOST_ADDRESS: u64 = 65535;
 // More than four accesses are counted as so many.
 const TOO_MANY: usize = 5;
 
-// What is read of a task's accesses: how many, counted up to five, whether an address was out of range, and whether one came again. The
-// first four stand in the task's row.
+// What is read of a task's accesses: how many, counted up to five, whether an address was out of range, and
+// whether one came again. The first four stand in the task's row.
 #[derive(Clone, Copy)]
 pub struct Accesses {
     pub count: usize,
@@ -37,66 +36,48 @@ pub fn no_accesses() -> Accesses
 }
 
 // Whether one of the first n accesses in the row is to this address.
-fn is_touched(row: &[u64], n: usize, address: u64) -> bool
-    requires { (n ≤ lay.most_task_accesses) × (length row.now ≡ lay.task_row) }
+fn is_touched(row: &Row, n: usize, address: u64) -> bool
+    requires { n ≤ lay.most_task_accesses }
     ensures { (t : Placed) (xs : List Access) → length xs ≡ n → row.now ≡ row_of (with_accesses t xs)
         → result ≡ touches xs address }
 {
-    let mut k: usize = 0;
-    while k < n {
-        if row[layout::ACCESSES + layout::ACCESS_ROW * k + 1] == address {
-            return true;
-        }
-        k += 1;
-    }
-    false
+    row.accesses[..n].iter().any(|a| a.address == address)
 }
 
 // One access more: from the fifth on only counted.
-pub fn with_access(a: Accesses, row: &mut [u64], writes: u64, address: u64) -> Accesses
-    requires { length row.old ≡ lay.task_row }
-    ensures { (t : Placed) (xs : List Access) (b : Bool) → writes ≡ bit b → Reads t xs a row.old
-        → Reads t (xs ++ access b address ∷ []) result row.new }
+pub fn with_access(a: Accesses, row: &mut Row, access: Access) -> Accesses
+    ensures { (t : Placed) (xs : List Access) → Reads t xs a row.old → Reads t (xs ++ access ∷ []) result row.new }
 {
-    let n = a.count;
-    let out = either(a.out, MOST_ADDRESS < address);
-    if layout::MOST_TASK_ACCESSES <= n {
+    let out = a.out || MOST_ADDRESS < access.address;
+    if MOST_TASK_ACCESSES <= a.count {
         return Accesses {
             count: TOO_MANY,
             out,
             again: a.again,
         };
     }
-    let again = either(a.again, is_touched(row, n, address));
-    let at = layout::ACCESSES + layout::ACCESS_ROW * n;
-    row[at] = writes;
-    row[at + 1] = address;
-    row[layout::COUNT] = n as u64 + 1;
+    let again = a.again || is_touched(row, a.count, access.address);
+    row.accesses[a.count] = access;
+    row.count = a.count as u64 + 1;
     Accesses {
-        count: n + 1,
+        count: a.count + 1,
         out,
         again,
     }
 }
 
-// The fault of a task's line, of which place and cost have this one: it is task number n.
-pub(crate) fn judge_task(fault: Fault, a: Accesses, n: usize) -> Fault
-    ensures { result ≡ task_fault fault a n }
+// Judges the accesses of a task's line, of which place and cost have no fault: it is task number n.
+pub(crate) fn judge_task(a: Accesses, n: usize) -> Result<(), Refusal>
+    ensures { result ≡ limits_of a n }
 {
-    if let Fault::Is(_) = fault {
-        return fault;
-    }
     if a.out {
-        return Fault::Is(Refusal::OutOfRange);
+        return Err(Refusal::OutOfRange);
     }
-    if layout::MOST_TASKS <= n {
-        return Fault::Is(Refusal::TooMany);
-    }
-    if layout::MOST_TASK_ACCESSES < a.count {
-        return Fault::Is(Refusal::TooMany);
+    if MOST_TASKS <= n || MOST_TASK_ACCESSES < a.count {
+        return Err(Refusal::TooMany);
     }
     if a.again {
-        return Fault::Is(Refusal::AddressTwice);
+        return Err(Refusal::AddressTwice);
     }
-    Fault::Nothing
+    Ok(())
 }

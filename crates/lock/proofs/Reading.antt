@@ -1,25 +1,20 @@
 -- What the code compares in the arrays is what the definitions of a look and of the front waiter ask.
-use mathlib.Core.Path.{◌≡◌, refl, ap, ◌∙◌}
+use mathlib.Core.Path.{◌≡◌, ap, ◌∙◌}
 use mathlib.Core.Logic.{◌≢◌}
-use mathlib.Core.List.{List, [], ◌∷◌}
+use mathlib.Core.List.{List}
 use mathlib.Core.Option.{none, some}
-use Prim.Native.Nat.{ℕ, zero, suc, ◌%◌, ◌≤◌, ◌<◌}
+use Prim.Native.Nat.{ℕ, ◌%◌, ◌≤◌, ◌<◌}
 use native.Mathlib.Omega.{arith}
 use lib.ListN.{length, get_or}
 use borrow.Author.Tests.{le-leb, lt-leb, eq-eqb, ne_eqb}
+use Rattle.std.proofs.lemmas.List.{get_or_default}
 use Rattle.lock.specs.Lock.{turn, worker_in, front, not_yet, receives, owns, look}
 use Rattle.lock.specs.Arrays.{lock_of}
-
--- an index below the length reads the same whatever stands for what is past the end
-get_d_any : (l : List ℕ) (i d e : ℕ) → i < length l → get_or l i d ≡ get_or l i e
-get_d_any [] i d e h = absurd (omega arith)
-get_d_any (x ∷ xs) zero d e h = refl
-get_d_any (x ∷ xs) (suc i) d e h = get_d_any xs i d e (omega arith)
 
 module _ (N head tail : ℕ) (wait registrations tickets tasks : List ℕ) where
   module _ (t w at : ℕ) (slot : at ≡ t % N) (below : at < length wait) where
     slot_read : get_or wait at 0 ≡ get_or wait (t % N) N
-    slot_read = get_d_any wait at 0 N below ∙ ap (λ (k : ℕ). get_or wait k N) slot
+    slot_read = get_or_default wait at 0 N below ∙ ap (λ (k : ℕ). get_or wait k N) slot
 
     pub looks_early : get_or wait at 0 < t → not_yet ≡ look N (lock_of N head tail wait registrations tickets tasks) t w
     unfolding look turn

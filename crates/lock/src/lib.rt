@@ -1,6 +1,7 @@
 // The delegation ticket lock over lent arrays; `slots` is the ring's size. `specs/Lock.antt` says what the lock is, `specs/Arrays.antt` how
-// it lies in the arrays, `specs/Promise.antt` what a caller may count on. A contract says what the lent arrays and the ends come to, and
+// it lies in the arrays, `proofs/Promise.antt` what a caller may count on. A contract says what the lent arrays and the ends come to, and
 // which operation of the lock that is, whatever lies in the arrays that the function is not lent.
+// The C interface needs the arrays apart, each as a slice: its callers lend to a function only those that it reads or writes.
 
 #![tactic(auto)]
 
@@ -37,17 +38,11 @@ pub enum Looked {
     Owns,
 }
 
-#[derive(Clone, Copy)]
-pub enum Front {
-    Nobody,
-    Waiter(Worker),
-}
-
 // The ends after a hand-over, whom it let in, and whose session did it.
 #[derive(Clone, Copy)]
 pub struct HandedOver {
     pub ends: Ends,
-    pub let_in: Front,
+    pub let_in: Option<Worker>,
     pub by: Worker,
 }
 
@@ -82,16 +77,6 @@ pub fn slot(ticket: Ticket, slots: u64) -> usize
     (ticket.0 % slots) as usize
 }
 
-fn set_all(a: &mut [u64], v: u64)
-    ensures { a.new ≡ replicate (length a.old) v }
-{
-    let mut i = 0;
-    while i < a.len() {
-        a[i] = v;
-        i += 1;
-    }
-}
-
 // Sets the start values, in all of each array.
 pub fn start(
     slots: u64,
@@ -109,10 +94,10 @@ pub fn start(
     ensures lock { lock_of slots result.head.0 result.tail.0 wait.new registrations.new
         cell_tickets.new cell_tasks.new ≡ L.start slots }
 {
-    set_all(wait, slots);
-    set_all(registrations, EMPTY);
-    set_all(cell_tickets, EMPTY);
-    set_all(cell_tasks, EMPTY);
+    wait.fill(slots);
+    registrations.fill(EMPTY);
+    cell_tickets.fill(EMPTY);
+    cell_tasks.fill(EMPTY);
     Ends {
         head: Ticket(slots),
         tail: Ticket(slots + 1),
@@ -128,12 +113,11 @@ pub fn take_ticket(ends: Ends) -> Taken
         ≡ L.take_ticket (lock_of slots ends.head.0 ends.tail.0 wait registrations tickets tasks) }
 {
     let ticket = ends.head;
-    let tail = ends.tail;
     Taken {
         ticket,
         ends: Ends {
             head: Ticket(ticket.0 + 1),
-            tail,
+            tail: ends.tail,
         },
     }
 }
@@ -190,9 +174,8 @@ pub fn look_at(
     let t = ticket.0;
     let w = worker.0 as usize;
     if wait[at] < t {
-        return Looked::NotYet;
-    }
-    if cell_tickets[w] == t {
+        Looked::NotYet
+    } else if cell_tickets[w] == t {
         Looked::Receives(cell_tasks[w])
     } else {
         Looked::Owns
@@ -200,19 +183,19 @@ pub fn look_at(
 }
 
 // The worker that is registered with the tail.
-pub fn front_waiter(slots: u64, ends: Ends, registrations: &[u64]) -> Front
+pub fn front_waiter(slots: u64, ends: Ends, registrations: &[u64]) -> Option<Worker>
     requires { (0 < slots) × (slots ≤ length registrations.now) }
     ensures { (wait tickets tasks : List ℕ) →
         waiter result ≡ L.front slots (lock_of slots ends.head.0 ends.tail.0 wait registrations.now tickets tasks) }
 {
     let tail = ends.tail;
-    let t = tail.0;
     let at = slot(tail, slots);
     let registration = registrations[at];
-    if registration < t {
-        return Front::Nobody;
+    if registration < tail.0 {
+        None
+    } else {
+        Some(worker_in(registration, tail))
     }
-    Front::Waiter(worker_in(registration, tail))
 }
 
 // Writes the tail into its wait slot and raises it; tells whom this lets in, the session being the owner's.
@@ -256,10 +239,7 @@ pub fn is_free(ends: Ends) -> bool
 {
     let head = ends.head.0;
     let tail = ends.tail.0;
-    if head < tail {
-        return tail - head == 1;
-    }
-    false
+    head < tail && tail - head == 1
 }
 
 // Puts a task into a worker's cell, with the tail as its ticket.

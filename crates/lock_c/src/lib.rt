@@ -11,8 +11,7 @@ ghost use Rattle.lock.specs.Answers.{seen, waiter};
 ghost use Rattle.lock_c.specs.Answered.{Answered};
 ghost use Rattle.lock_c.specs.Numbers.{TellsLook, TellsFront};
 
-const MOST: u64 = 18446744073709551615;
-
+// The C interface needs numbers: C has no enum with a value, so `ok` and `kind` say what an answer is.
 // `ok` is 1, and 0 in a refusal.
 #[repr(C)]
 #[derive(Clone, Copy)]
@@ -60,28 +59,36 @@ fn ends_at(head: u64, tail: u64) -> lock::Ends
     }
 }
 
-fn look_answer(looked: lock::Looked) -> Answer
-    ensures { TellsLook result.kind result.value (seen looked) }
-{
-    match looked {
-        lock::Looked::NotYet => Answer { kind: 1, value: 0 },
-        lock::Looked::Receives(task) => Answer {
-            kind: 2,
-            value: task,
-        },
-        lock::Looked::Owns => Answer { kind: 3, value: 0 },
+impl Answer {
+    const REFUSED: Answer = Answer { kind: 0, value: 0 };
+}
+
+impl From<lock::Looked> for Answer {
+    ghost from_gives = { λ looked a. TellsLook a.kind a.value (seen looked) };
+
+    fn from(looked: lock::Looked) -> Answer {
+        match looked {
+            lock::Looked::NotYet => Answer { kind: 1, value: 0 },
+            lock::Looked::Receives(task) => Answer {
+                kind: 2,
+                value: task,
+            },
+            lock::Looked::Owns => Answer { kind: 3, value: 0 },
+        }
     }
 }
 
-fn front_answer(front: lock::Front) -> Answer
-    ensures { TellsFront result.kind result.value (waiter front) }
-{
-    match front {
-        lock::Front::Nobody => Answer { kind: 1, value: 0 },
-        lock::Front::Waiter(w) => Answer {
-            kind: 2,
-            value: w.0,
-        },
+impl From<Option<lock::Worker>> for Answer {
+    ghost from_gives = { λ front a. TellsFront a.kind a.value (waiter front) };
+
+    fn from(front: Option<lock::Worker>) -> Answer {
+        match front {
+            None => Answer { kind: 1, value: 0 },
+            Some(w) => Answer {
+                kind: 2,
+                value: w.0,
+            },
+        }
     }
 }
 
@@ -103,7 +110,7 @@ pub extern "C" fn salfunye_lock_start(
         × (wait.new ≡ wait.old) × (registrations.new ≡ registrations.old)
         × (cell_tickets.new ≡ cell_tickets.old) × (cell_tasks.new ≡ cell_tasks.old)) }
 {
-    if slots == MOST {
+    if slots == u64::MAX {
         return Ends {
             ok: 0,
             head: 0,
@@ -124,7 +131,7 @@ pub extern "C" fn salfunye_lock_take_ticket(head: u64, tail: u64) -> Taken
         ((result.ok ≡ 1) × (result.ticket ≡ head) × (result.head ≡ head + 1) × (result.tail ≡ tail))
         ((result.ok ≡ 0) × (result.ticket ≡ 0) × (result.head ≡ head) × (result.tail ≡ tail)) }
 {
-    if head == MOST {
+    if head == u64::MAX {
         return Taken {
             ok: 0,
             ticket: 0,
@@ -152,13 +159,7 @@ pub extern "C" fn salfunye_lock_register(
         ((result ≡ true) × (registrations.new ≡ set registrations.old (ticket % slots) (join ticket worker)))
         ((result ≡ false) × (registrations.new ≡ registrations.old)) }
 {
-    if slots == 0 {
-        return false;
-    }
-    if registrations.len() < slots as usize {
-        return false;
-    }
-    if MOST - ticket < worker {
+    if slots == 0 || registrations.len() < slots as usize || u64::MAX - ticket < worker {
         return false;
     }
     lock::register(
@@ -187,19 +188,14 @@ pub extern "C" fn salfunye_lock_look(
         ticket worker))
         ((result.kind ≡ 0) × (result.value ≡ 0)) }
 {
-    if slots == 0 {
-        return Answer { kind: 0, value: 0 };
+    if slots == 0
+        || wait.len() < slots as usize
+        || cell_tickets.len() <= worker as usize
+        || cell_tasks.len() <= worker as usize
+    {
+        return Answer::REFUSED;
     }
-    if wait.len() < slots as usize {
-        return Answer { kind: 0, value: 0 };
-    }
-    if cell_tickets.len() <= worker as usize {
-        return Answer { kind: 0, value: 0 };
-    }
-    if cell_tasks.len() <= worker as usize {
-        return Answer { kind: 0, value: 0 };
-    }
-    look_answer(lock::look(
+    Answer::from(lock::look(
         slots,
         wait,
         cell_tickets,
@@ -207,19 +203,6 @@ pub extern "C" fn salfunye_lock_look(
         lock::Ticket(ticket),
         lock::Worker(worker),
     ))
-}
-
-fn not_handed(head: u64, tail: u64) -> Handed
-    ensures { (result.ok ≡ 0) × (result.head ≡ head) × (result.tail ≡ tail) × (result.kind ≡ 0) × (result.let_in ≡ 0) × (result.by ≡ 0) }
-{
-    Handed {
-        ok: 0,
-        head,
-        tail,
-        kind: 0,
-        let_in: 0,
-        by: 0,
-    }
 }
 
 #[unsafe(no_mangle)]
@@ -241,17 +224,19 @@ pub extern "C" fn salfunye_lock_hand_over(
         ((result.ok ≡ 0) × (result.head ≡ head) × (result.tail ≡ tail) × (result.kind ≡ 0) × (result.let_in ≡ 0) × (result.by ≡ 0)
         × (wait.new ≡ wait.old)) }
 {
-    if slots == 0 {
-        return not_handed(head, tail);
-    }
-    if wait.len() < slots as usize {
-        return not_handed(head, tail);
-    }
-    if registrations.len() < slots as usize {
-        return not_handed(head, tail);
-    }
-    if tail == MOST {
-        return not_handed(head, tail);
+    if slots == 0
+        || wait.len() < slots as usize
+        || registrations.len() < slots as usize
+        || tail == u64::MAX
+    {
+        return Handed {
+            ok: 0,
+            head,
+            tail,
+            kind: 0,
+            let_in: 0,
+            by: 0,
+        };
     }
     let handed = lock::hand_over(
         slots,
@@ -260,8 +245,7 @@ pub extern "C" fn salfunye_lock_hand_over(
         registrations,
         lock::Worker(owner),
     );
-    let front = handed.let_in;
-    let let_in = front_answer(front);
+    let let_in = Answer::from(handed.let_in);
     Handed {
         ok: 1,
         head: handed.ends.head.0,
@@ -284,13 +268,10 @@ pub extern "C" fn salfunye_lock_front_waiter(
         TellsFront result.kind result.value (front slots (lock_of slots head tail wait registrations.now tickets tasks)))
         ((result.kind ≡ 0) × (result.value ≡ 0)) }
 {
-    if slots == 0 {
-        return Answer { kind: 0, value: 0 };
+    if slots == 0 || registrations.len() < slots as usize {
+        return Answer::REFUSED;
     }
-    if registrations.len() < slots as usize {
-        return Answer { kind: 0, value: 0 };
-    }
-    front_answer(lock::front_waiter(slots, ends_at(head, tail), registrations))
+    Answer::from(lock::front_waiter(slots, ends_at(head, tail), registrations))
 }
 
 #[unsafe(no_mangle)]
@@ -316,10 +297,7 @@ pub extern "C" fn salfunye_lock_fill(
         ((result ≡ false) × (cell_tickets.new ≡ cell_tickets.old)
         × (cell_tasks.new ≡ cell_tasks.old)) }
 {
-    if cell_tickets.len() <= worker as usize {
-        return false;
-    }
-    if cell_tasks.len() <= worker as usize {
+    if cell_tickets.len() <= worker as usize || cell_tasks.len() <= worker as usize {
         return false;
     }
     lock::fill(

@@ -5,6 +5,7 @@ use mathlib.Core.Path.{◌≡◌, refl, sym, ap, ◌∙◌}
 use mathlib.Core.Bool.{Bool}
 use mathlib.Core.List.{List}
 use mathlib.Core.Option.{none}
+use Rattle.std.specs.Prelude.{Option, None, Some}
 use lib.ListN.{set}
 use Rattle.lock.specs.Lock as L
 use Rattle.lock.specs.History as LH
@@ -14,8 +15,7 @@ use Rattle.lock.specs.Answers.{seen, waiter, told}
 use Rattle.lock.specs.declared.Ends.{Ends}
 use Rattle.lock.specs.declared.Taken.{Taken}
 use Rattle.lock.specs.declared.Looked.{Looked}
-use Rattle.lock.specs.declared.Front.{Front}
-use Rattle.lock.specs.declared.Front.TheVariants.{Nobody, Waiter}
+use Rattle.lock.specs.declared.Looked.TheVariants.{NotYet, Receives, Owns}
 use Rattle.lock.specs.declared.HandedOver.{HandedOver}
 use Rattle.lock.specs.declared.Worker.{Worker}
 use Rattle.machine.specs.Event.{found, handed}
@@ -35,13 +35,12 @@ Registered slots ticket worker before after =
     × ((head tail : ℕ) (wait tickets cells : List ℕ)
     → lock_of slots head tail wait after tickets cells ≡ L.register slots (lock_of slots head tail wait before tickets cells) ticket worker)
 
-abbrev pub HandsOver : ℕ → Ends → (before after registrations : List ℕ) → ℕ → HandedOver → Type 0
-HandsOver slots ends before after registrations w r =
-    ((r.ends.head.0 ≡ ends.head.0) × (r.ends.tail.0 ≡ ends.tail.0 + 1))
-    × ((after ≡ set before (ends.tail.0 % slots) ends.tail.0)
-    × (((tickets cells : List ℕ)
-    → lock_in slots r.ends after registrations tickets cells ≡ L.hand_over slots (lock_in slots ends before registrations tickets cells))
-    × ((tickets cells : List ℕ) → told r ≡ L.tells slots (lock_in slots ends before registrations tickets cells) w)))
+pub record HandsOver (slots : ℕ) (ends : Ends) (before after registrations : List ℕ) (w : ℕ) (r : HandedOver) : Type 0 where
+  pub raised : (r.ends.head.0 ≡ ends.head.0) × (r.ends.tail.0 ≡ ends.tail.0 + 1)
+  pub waits : after ≡ set before (ends.tail.0 % slots) ends.tail.0
+  pub locks : (tickets cells : List ℕ)
+      → lock_in slots r.ends after registrations tickets cells ≡ L.hand_over slots (lock_in slots ends before registrations tickets cells)
+  pub tells : (tickets cells : List ℕ) → told r ≡ L.tells slots (lock_in slots ends before registrations tickets cells) w
 
 abbrev pub Filled : Ends → (worker task : ℕ) → (tickets stamped cells filled : List ℕ) → Type 0
 Filled ends worker task tickets stamped cells filled =
@@ -58,7 +57,7 @@ Sees slots wait tickets cells ticket worker r =
 abbrev pub SeesAt : ℕ → (wait tickets cells : List ℕ) → (ticket worker : ℕ) → Looked → Type 0
 SeesAt at wait tickets cells ticket worker r = (slots : ℕ) → at ≡ ticket % slots → Sees slots wait tickets cells ticket worker r
 
-abbrev pub Fronts : ℕ → Ends → List ℕ → Front → Type 0
+abbrev pub Fronts : ℕ → Ends → List ℕ → Option Worker → Type 0
 Fronts slots ends registrations r =
     (wait tickets cells : List ℕ) → waiter r ≡ L.front slots (lock_of slots ends.head.0 ends.tail.0 wait registrations tickets cells)
 
@@ -69,35 +68,42 @@ Frees ends r =
 
 -- ---- what a hand-over gives, by its answer
 
-module _ (slots : ℕ) (ends : Ends) (before after registrations : List ℕ) (w : ℕ) (r : HandedOver)
+module _ {slots : ℕ} {ends : Ends} {before after registrations : List ℕ} {w : ℕ} {r : HandedOver}
     (k : HandsOver slots ends before after registrations w r) (tickets cells : List ℕ) where
   abbrev lock : L.Lock
   lock = lock_in slots ends before registrations tickets cells
 
-  let_in_lem : {x : Front} → r.let_in ≡ x → (L.tells slots lock w).let_in ≡ waiter x
-  let_in_lem e = sym (ap (λ (t : L.Told). t.let_in) (k.1.1.1 tickets cells)) ∙ ap waiter e
+  let_in_lem : {x : Option Worker} → r.let_in ≡ x → (L.tells slots lock w).let_in ≡ waiter x
+  let_in_lem e = sym (ap (λ (t : L.Told). t.let_in) (k.tells tickets cells)) ∙ ap waiter e
 
-  pub told_front : {x : Front} → r.let_in ≡ x → L.front slots lock ≡ waiter x
+  pub told_front : {x : Option Worker} → r.let_in ≡ x → L.front slots lock ≡ waiter x
   told_front e = sym (Promise.told_front slots lock w) ∙ let_in_lem e
 
   pub told_by : r.by.0 ≡ w
-  told_by = ap (λ (t : L.Told). t.by) (k.1.1.1 tickets cells) ∙ Promise.told_by slots lock w
+  told_by = ap (λ (t : L.Told). t.by) (k.tells tickets cells) ∙ Promise.told_by slots lock w
 
-  pub hands_nobody : r.let_in ≡ Nobody → handed_in slots lock w ≡ none
+  pub hands_nobody : r.let_in ≡ None → handed_in slots lock w ≡ none
   unfolding handed
   hands_nobody e = rw (let_in_lem e) refl
 
-  pub hands_found : (v : Worker) → r.let_in ≡ Waiter v → (x : Looked) → Sees slots after tickets cells ends.tail.0 v.0 x
+  -- what the worker let in finds, by what it sees
+  pub hands_found : (v : Worker) → r.let_in ≡ Some v → (x : Looked) → Sees slots after tickets cells ends.tail.0 v.0 x
       → handed_in slots lock w ≡ found w v.0 (seen x)
   unfolding handed
   hands_found v e x sees =
       rw (
         let_in_lem e,
         Promise.told_by slots lock w,
-        ← k.1.1.0 tickets cells,
+        ← k.locks tickets cells,
         sees r.ends.head.0 r.ends.tail.0 registrations,
       )
       refl
+
+-- who sees no task finds none
+pub finds_none : (w v : ℕ) (x : Looked) → ((i : ℕ) → x ≡ Receives i → ⊥) → found w v (seen x) ≡ none
+finds_none w v NotYet none_seen = refl
+finds_none w v (Receives i) none_seen = absurd (none_seen i refl)
+finds_none w v Owns none_seen = refl
 
 module _ {m : Memory} {own : List ℕ} {w : ℕ} (a : Able m own w) where
   -- ---- its numbers
@@ -124,7 +130,7 @@ module _ {m : Memory} {own : List ℕ} {w : ℕ} (a : Able m own w) where
   sees t says e =
       rw (← a.holds.lock, ← slots_are, ← e) (sym (says m.counts.ends.head.0 m.counts.ends.tail.0 m.registrations))
 
-  pub fronts : {r x : Front} → Fronts m.counts.slots m.counts.ends m.registrations r → r ≡ x
+  pub fronts : {r x : Option Worker} → Fronts m.counts.slots m.counts.ends m.registrations r → r ≡ x
       → L.front a.c.slots a.s.lock ≡ waiter x
   fronts says e = rw (← a.holds.lock, ← slots_are, ← e) (sym (says m.wait m.tickets m.cells))
 

@@ -16,6 +16,7 @@ use Rattle.runs.specs.Circular.{entries, entries_same, shifted, shifted_length}
 use Rattle.plan.specs.Plan.{Task}
 use Rattle.tasks.specs.History as Th
 use Rattle.memory.specs.Layout.{most_tasks}
+use Rattle.memory.specs.declared.rows.TaskRow.{TaskRow}
 use Rattle.memory.specs.Memory as T
 use Rattle.machine.specs.State.{Place, idle, serving, handing, leaving}
 use Rattle.machine.specs.Event.{Handed, handed_by, Event, fills, takes, takes_none, hands_over, leaves, may, choice, taking, event}
@@ -60,7 +61,7 @@ masks_still device W ts task giver few masks i l =
     get_or-set_other device (GIVERS + task) (MASKS + i) (giver + 1) 0 (λ e. omega arith) ∙ masks i l
 
 -- the device holds a task out, whoever does it
-abbrev pub HeldOut : (rows after : List ℕ) → ℕ → Type 0
+abbrev pub HeldOut : (rows after : List TaskRow) → ℕ → Type 0
 HeldOut rows after task =
     (m : T.TaskMemory) (own : List ℕ) (k w : ℕ)
     → T.Does (Th.holds task) k (T.memory m.tally rows m.accesses) own (T.memory m.tally after m.accesses) own w
@@ -231,7 +232,7 @@ module _ {m : Memory} {own : List ℕ} {w : ℕ} (a : Able m own w) where
       left_masks i l = still (MASKS + i) (omega arith) ∙ a.holds.device.masks i l
 
       pub fill_acts : (v : ℕ) → L.front a.c.slots a.s.lock ≡ some v → FallsFor m.counts m.device v k
-          → number_in own + 1 < m.counts.workers → (stamped filled rows next : List ℕ)
+          → number_in own + 1 < m.counts.workers → (stamped filled : List ℕ) (rows : List TaskRow) (next : List ℕ)
           → Filled m.counts.ends v task m.tickets stamped m.cells filled
           → HeldOut m.rows rows task
           → Gone own next HANDING (number_in own)
@@ -255,7 +256,7 @@ module _ {m : Memory} {own : List ℕ} {w : ℕ} (a : Able m own w) where
           left_masks
           refl)
 
-      pub take_acts : Takes → FallsFor m.counts m.device w k → (rows next : List ℕ)
+      pub take_acts : Takes → FallsFor m.counts m.device w k → (rows : List TaskRow) (next : List ℕ)
           → Received m.rows own rows next task w m.counts.picks LEAVING
           → Leads a (with_served m r m.registrations m.tickets m.cells (given_by left task w) rows) next
       take_acts takes_it found rows next got =

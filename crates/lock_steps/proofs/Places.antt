@@ -6,6 +6,7 @@ use mathlib.Core.List.{List, [], ◌∷◌, ◌++◌}
 use lib.ListN.{length, get_or, set, length-set}
 use lib.Seq.{get_or-set_same}
 use Rattle.machine.specs.State.{for_serving, for_adding, Place, idle, trying, registering, looking, draining, serving, handing, leaving}
+use Rattle.memory.specs.declared.rows.TaskRow.{TaskRow}
 use Rattle.steps.specs.Layout.{share_size, station_size, slot_at}
 use Rattle.steps.specs.Codes.{Coded}
 use Rattle.steps.specs.Memory.{part, station, Stationed, moved}
@@ -63,7 +64,7 @@ noted own z k a slot long is =
     ∙ get_or-set_same went slot_at slot 0 room
 
 -- the tasks' part is lent, to receive a task, and given back as y; then the worker goes
-pub received : (own y : List ℕ) → length own ≡ share_size → (rows after next : List ℕ) (task w time k : ℕ)
+pub received : (own y : List ℕ) → length own ≡ share_size → (rows after : List TaskRow) (next : List ℕ) (task w time k : ℕ)
     → ReceivedBy rows (lent_part own) after y task w time
     → Gone (with_part own y) next k 0 → Received rows own after next task w time k
 received own y long rows after next task w time k does goes =

@@ -9,6 +9,7 @@ use Rattle.runs.specs.Update.{upd}
 use Rattle.lock.specs.Arrays.{lock_of}
 use Rattle.lock.specs.declared.Ends.{Ends}
 use Rattle.tasks.specs.History as Th
+use Rattle.memory.specs.declared.rows.TaskRow.{TaskRow}
 use Rattle.memory.specs.Memory as T
 use Rattle.tasks.specs.Playing as P
 use Rattle.machine.specs.State.{Setup, Place, State}
@@ -90,7 +91,7 @@ module _ {m : Memory} {own : List ℕ} {w : ℕ} (a : Able m own w) where
         refl
 
     -- the tasks after the event's operation on them
-    pub tasks_after_lem : (op : Th.Op) → task_op e ≡ some op → (rows next : List ℕ)
+    pub tasks_after_lem : (op : Th.Op) → task_op e ≡ some op → (rows : List TaskRow) (next : List ℕ)
         → T.Does op m.counts.picks (T.memory m.counts.tally m.rows m.accesses) (part own)
         (T.memory m.counts.tally rows m.accesses) (part next) w
         → T.HoldsTasks a.c.workers a.c.tasks (T.memory m.counts.tally rows m.accesses)

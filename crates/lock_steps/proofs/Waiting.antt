@@ -17,6 +17,7 @@ use Rattle.tasks.specs.Tasks as TT
 use Rattle.memory.specs.Layout as numbers
 use Rattle.tasks.proofs.Promise.{of_the_plan}
 use Rattle.tasks.specs.History as Th
+use Rattle.memory.specs.declared.rows.TaskRow.{TaskRow}
 use Rattle.memory.specs.Memory as T
 use Rattle.machine.specs.State.{for_serving, for_adding, idle, registering, looking, draining}
 use Rattle.machine.specs.Event.{tries_and_owns, tries_in_vain, takes_ticket, registers, waits, receives, owns, event}
@@ -122,7 +123,7 @@ module _ {m : Memory} {own : List ℕ} {w : ℕ} (a : Able m own w) where
           let held = held_out (rw receives_it at a.fit.may) in
           tasks_few a.fit i (of_the_plan a.fit.kept i (λ e. let z : TT.held ≡ TT.new = sym held ∙ e in clash (cc)))
 
-      pub receive_acts : (rows next : List ℕ) → Received m.rows own rows next i w m.counts.picks IDLE
+      pub receive_acts : (rows : List TaskRow) (next : List ℕ) → Received m.rows own rows next i w m.counts.picks IDLE
           → Leads a (with_seen m m.counts m.wait m.tickets m.cells rows) next
       receive_acts rows next got =
           acts_hold a.holds (receives (number_in own) i) receives_it (with_seen m m.counts m.wait m.tickets m.cells rows) next

@@ -2,6 +2,7 @@
 use Rattle.std.specs.Prelude.{ℕ, ◌+◌, ◌≡◌, List, set}
 use Rattle.std.proofs.Math.Option.{Option, none, some}
 use Rattle.tasks.specs.History as Th
+use Rattle.memory.specs.declared.rows.TaskRow.{TaskRow}
 use Rattle.memory.specs.Memory as T
 use Rattle.machine.specs.State.{Place}
 use Rattle.machine.specs.Event.{Handed}
@@ -19,14 +20,14 @@ pub record Gone (own next : List ℕ) (k a : ℕ) : Type 0 where
   pub there : Moved own next k a
 
 -- the tasks' part: a task is received, be it from the device itself or one that was held out
-abbrev pub ReceivedBy : (rows before after next : List ℕ) → (task w time : ℕ) → Type 0
+abbrev pub ReceivedBy : (rows : List TaskRow) → (before : List ℕ) → (after : List TaskRow) → (next : List ℕ) → (task w time : ℕ) → Type 0
 ReceivedBy rows before after next task w time =
     (m : T.TaskMemory)
     → T.Does (Th.takes task) time (T.memory m.tally rows m.accesses) before (T.memory m.tally after m.accesses) next w
     × T.Does (Th.receives task) time (T.memory m.tally rows m.accesses) before (T.memory m.tally after m.accesses) next w
 
 -- it is at the place of code k and has received a task
-pub record Received (rows own after next : List ℕ) (task w time k : ℕ) : Type 0 where
+pub record Received (rows : List TaskRow) (own : List ℕ) (after : List TaskRow) (next : List ℕ) (task w time k : ℕ) : Type 0 where
   pub does : ReceivedBy rows (part own) after (part next) task w time
   pub there : Moved own next k 0
 

@@ -5,6 +5,7 @@ use Rattle.lock.specs.Lock as L
 use Rattle.lock.specs.Arrays.{lock_of}
 use Rattle.lock.specs.declared.Ends.{Ends}
 use Rattle.machine.specs.Event.{Handed, handed}
+use Rattle.memory.specs.declared.rows.TaskRow.{TaskRow}
 use Rattle.steps.specs.Memory.{Memory}
 use Rattle.steps.specs.declared.Counts.{Counts}
 
@@ -43,7 +44,7 @@ with_registrations m n registrations =
     }
 
 -- what a worker sees that looks, and the tasks' rows
-abbrev pub with_seen : Memory → Counts → (wait tickets cells rows : List ℕ) → Memory
+abbrev pub with_seen : Memory → Counts → (wait tickets cells : List ℕ) → (rows : List TaskRow) → Memory
 with_seen m n wait tickets cells rows =
     record {
       counts = n;
@@ -57,7 +58,7 @@ with_seen m n wait tickets cells rows =
     }
 
 -- what an owner needs that serves
-abbrev pub with_served : Memory → Counts → (registrations tickets cells device rows : List ℕ) → Memory
+abbrev pub with_served : Memory → Counts → (registrations tickets cells device : List ℕ) → (rows : List TaskRow) → Memory
 with_served m n registrations tickets cells device rows =
     record {
       counts = n;

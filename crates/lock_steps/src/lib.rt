@@ -9,6 +9,7 @@ ghost use Rattle.lock_steps.specs.Going.{Gone, Received};
 
 use duties::device::receive;
 use memory::layout::{SHARE, STATION};
+use memory::rows::TaskRow;
 use steps::station::{go, wait_with};
 
 pub mod owner; // owner.rt: the owner of the lock
@@ -32,8 +33,8 @@ fn wait_at(own: &mut [u64], ticket: u64, slot: u64)
 }
 
 // It receives a task at a time, and goes to a place that speaks of nothing.
-fn receive_to(rows: &mut [u64], own: &mut [u64], task: u64, w: u64, time: u64, place: u64)
-    requires { (length rows.old ≡ layout.task_rows) × (task < layout.most_tasks) × (length own.old ≡ share_size) }
+fn receive_to(rows: &mut [TaskRow], own: &mut [u64], task: u64, w: u64, time: u64, place: u64)
+    requires { (task < length rows.old) × (length own.old ≡ share_size) }
     ensures { Received rows.old own.old rows.new own.new task w time place }
 {
     receive(rows, &mut own[STATION..SHARE], task, w, time);

@@ -9,7 +9,8 @@ ghost use Rattle.lock_steps.specs.Lent.{lock_in, handed_in, with_handed, with_se
 
 use super::{go_to, receive_to};
 use duties::device::hold;
-use lock::{Front, Looked, Worker};
+use lock::{Looked, Worker};
+use memory::rows::TaskRow;
 use steps::layout::{GIVERS, HANDING, IDLE, LEAVING, NUMBER, SERVING};
 use steps::ready::{first_permitted, take_out, task_at};
 use steps::{Counts, with_ends};
@@ -29,7 +30,7 @@ pub fn serve_step(
     tickets: &mut [u64],
     cells: &mut [u64],
     device: &mut [u64],
-    rows: &mut [u64],
+    rows: &mut [TaskRow],
     own: &mut [u64],
     w: u64,
 ) -> Counts
@@ -47,11 +48,10 @@ pub fn serve_step(
         return n;
     }
     let served = own[NUMBER];
+    // Not one `&& let`: after that the proof isn't told that nobody is at the front, and it did not close.
     if served + 1 < n.workers {
-        let front = lock::front_waiter(n.slots, n.ends, registrations);
-        if let Front::Waiter(waiter) = front {
-            let k = first_permitted(n, device, waiter.0);
-            if k < n.ready {
+        if let Some(waiter) = lock::front_waiter(n.slots, n.ends, registrations) {
+            if let Some(k) = first_permitted(n, device, waiter.0) {
                 let task = task_at(n, device, k);
                 let left = take_out(n, device, k);
                 lock::fill(n.ends, tickets, cells, waiter, task);
@@ -61,11 +61,10 @@ pub fn serve_step(
             }
         }
     }
-    let k = first_permitted(n, device, w);
-    if k == n.ready {
+    let Some(k) = first_permitted(n, device, w) else {
         go_to(own, LEAVING, 0);
         return n;
-    }
+    };
     let task = task_at(n, device, k);
     let left = take_out(n, device, k);
     receive_to(rows, own, task, w, n.picks, LEAVING);
@@ -94,20 +93,13 @@ fn hand_on(
         (lock_in n.slots n.ends wait.old registrations.now tickets.now cells.now) w) }
 {
     let told = lock::hand_over(n.slots, n.ends, wait, registrations, Worker(w));
-    let by = told.by;
-    let let_in = told.let_in;
-    let next = with_ends(n, told.ends);
-    if let Front::Waiter(taker) = let_in {
+    if let Some(taker) = told.let_in {
         let looked = lock::look(n.slots, wait, tickets, cells, n.ends.tail, taker);
-        match looked {
-            Looked::NotYet => {}
-            Looked::Receives(task) => {
-                note_giver(device, task, by.0);
-            }
-            Looked::Owns => {}
+        if let Looked::Receives(task) = looked {
+            note_giver(device, task, told.by.0);
         }
     }
-    next
+    with_ends(n, told.ends)
 }
 
 // Hands over to the waiter that it has served, and stays.

@@ -8,6 +8,7 @@ ghost use Rattle.lock_steps.specs.Lent.{with_registrations, with_seen};
 
 use super::{go_to, receive_to, wait_at};
 use lock::{Looked, Ticket, Worker};
+use memory::rows::TaskRow;
 use steps::layout::{DRAINING_TO_ADD, DRAINING_TO_SERVE, IDLE, NUMBER, REGISTERING, SLOT};
 use steps::{Counts, with_ends};
 
@@ -19,10 +20,8 @@ pub fn ticket_step(n: Counts, own: &mut [u64], w: u64) -> Counts
     ensures { (m : Memory) → Acts (with_counts m n) own.old (with_counts m result) own.new w }
 {
     let taken = lock::take_ticket(n.ends);
-    let ticket = taken.ticket;
-    go_to(own, REGISTERING, ticket.0);
-    let ends = taken.ends;
-    with_ends(n, ends)
+    go_to(own, REGISTERING, taken.ticket.0);
+    with_ends(n, taken.ends)
 }
 
 // Registers with its ticket.
@@ -32,10 +31,10 @@ pub fn register_step(n: Counts, registrations: &mut [u64], own: &mut [u64], w: u
     ensures { (m : Memory) → Acts (with_registrations m n registrations.old) own.old
         (with_registrations m n registrations.new) own.new w }
 {
-    let ticket = own[NUMBER];
-    lock::register(n.slots, registrations, Ticket(ticket), Worker(w));
-    let slot = lock::slot(Ticket(ticket), n.slots);
-    wait_at(own, ticket, slot as u64);
+    let ticket = Ticket(own[NUMBER]);
+    lock::register(n.slots, registrations, ticket, Worker(w));
+    let slot = lock::slot(ticket, n.slots);
+    wait_at(own, ticket.0, slot as u64);
 }
 
 // Looks whether it is its turn: it receives the task in its cell, or it owns the lock.
@@ -44,7 +43,7 @@ pub fn look_step(
     wait: &[u64],
     tickets: &[u64],
     cells: &[u64],
-    rows: &mut [u64],
+    rows: &mut [TaskRow],
     own: &mut [u64],
     w: u64,
 )
@@ -56,8 +55,7 @@ pub fn look_step(
 {
     let ticket = own[NUMBER];
     let at = own[SLOT] as usize;
-    let looked = lock::look_at(at, wait, tickets, cells, Ticket(ticket), Worker(w));
-    match looked {
+    match lock::look_at(at, wait, tickets, cells, Ticket(ticket), Worker(w)) {
         Looked::NotYet => {}
         Looked::Receives(task) => {
             receive_to(rows, own, task, w, n.picks, IDLE);
@@ -76,8 +74,7 @@ pub fn try_step(n: Counts, own: &mut [u64], w: u64) -> Counts
     if lock::is_free(n.ends) {
         let taken = lock::take_ticket(n.ends);
         go_to(own, DRAINING_TO_ADD, 0);
-        let ends = taken.ends;
-        return with_ends(n, ends);
+        return with_ends(n, taken.ends);
     }
     go_to(own, IDLE, 0);
     n

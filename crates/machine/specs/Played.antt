@@ -4,7 +4,8 @@ use Rattle.std.proofs.Math.Option.{Option, none, some}
 use Rattle.runs.specs.Sums.{sum}
 use Rattle.runs.specs.Counts.{is}
 use Rattle.runs.specs.Traces as Traces
-use Rattle.plan.specs.Plan.{Access, Task}
+use Rattle.plan.specs.Plan.{Task}
+use Rattle.plan.specs.declared.access.Access.{Access}
 use Rattle.plan.specs.Orders.{numbers_from}
 use Rattle.tasks.specs.Accesses.{accesses}
 use Rattle.tasks.specs.Flags.{flag_number}

@@ -1,18 +1,17 @@
 -- Where the labels of a plan's tasks stand in its text.
-use Rattle.std.specs.Prelude.{ℕ, ◌+◌, ◌*◌, ◌≤◌, ◌<◌, ◌≡◌, List, length, get_or, set, take, drop}
+use Rattle.std.specs.Prelude.{ℕ, ◌≤◌, ◌<◌, ◌≡◌, List, length, get_or, take, drop}
 use Rattle.plan.specs.Plan.{Task}
 use Rattle.tasks.specs.Accesses.{task_at}
 use Rattle.memory.specs.Layout as layout
 use Rattle.memory.specs.declared.labels.Label.{Label}
 
--- where label i stands, as its row has it
-abbrev pub label_at : List ℕ → ℕ → Label
-label_at rows i =
-    let row = layout.label_row * i in
-    record { place = get_or rows (row + layout.label_place) 0; size = get_or rows (row + layout.label_size) 0 }
+-- what stands for a label that there is not
+abbrev pub no_label : Label
+no_label = record { place = 0; size = 0 }
 
-abbrev pub with_label : List ℕ → ℕ → Label → List ℕ
-with_label rows i l = let row = layout.label_row * i in set (set rows (row + layout.label_place) l.place) (row + layout.label_size) l.size
+-- where label i stands
+abbrev pub label_at : List Label → ℕ → Label
+label_at labels i = get_or labels i no_label
 
 -- the bytes that stand there
 abbrev pub label_in : List ℕ → Label → List ℕ
@@ -24,5 +23,5 @@ pub record LabelOf (t : Task) (text : List ℕ) (l : Label) : Type 0 where
   pub size : l.size ≡ length t.label
   pub short : l.size ≤ layout.most_label
 
-abbrev pub Labels : List Task → List ℕ → List ℕ → Type 0
-Labels ts text rows = (i : ℕ) → i < length ts → LabelOf (task_at ts i) text (label_at rows i)
+abbrev pub Labels : List Task → List ℕ → List Label → Type 0
+Labels ts text labels = (i : ℕ) → i < length ts → LabelOf (task_at ts i) text (label_at labels i)

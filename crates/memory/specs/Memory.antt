@@ -1,5 +1,5 @@
 -- The tasks as they lie in arrays, in small numbers and in the workers' parts of the store.
-use Rattle.std.specs.Prelude.{ℕ, ◌+◌, ◌≤◌, ◌<◌, ◌≡◌, List, length, eqb, ltb, Bool, true, false, not, ◌&&◌}
+use Rattle.std.specs.Prelude.{ℕ, ◌+◌, ◌≤◌, ◌<◌, ◌≡◌, List, length, eqb, ltb, Bool, true, not, ◌&&◌, Some, None}
 use Rattle.std.proofs.Math.Option.{Option, none, some}
 use Rattle.runs.specs.Update.{upd}
 use Rattle.runs.specs.Sums.{sum}
@@ -12,22 +12,24 @@ use Rattle.tasks.specs.History.{Duty, Op, minds, Can, after, stand_after}
 use Rattle.tasks.specs.Duties.{duty, creating}
 use Rattle.memory.specs.Layout as layout
 use Rattle.memory.specs.Codes.{Making}
-use Rattle.memory.specs.Rows.{task_number, TaskRows, AccessRows}
+use Rattle.memory.specs.Rows.{task_row, TaskRows, AccessRows}
 use Rattle.memory.specs.Shares.{Stored}
+use Rattle.memory.specs.declared.rows.TaskRow.{TaskRow}
+use Rattle.memory.specs.declared.rows.AccessRow.{AccessRow}
 use Rattle.memory.specs.declared.tally.Tally.{Tally}
 
 -- what all workers share; each worker lies in its part
 pub record TaskMemory : Type 0 where
   pub tally : Tally
-  pub rows : List ℕ
-  pub accesses : List ℕ
+  pub rows : List TaskRow
+  pub accesses : List AccessRow
 
-abbrev pub memory : Tally → List ℕ → List ℕ → TaskMemory
+abbrev pub memory : Tally → List TaskRow → List AccessRow → TaskMemory
 memory tally rows accesses = record { tally = tally; rows = rows; accesses = accesses }
 
 pub record Long (m : TaskMemory) : Type 0 where
-  pub rows : length m.rows ≡ layout.task_rows
-  pub accesses : length m.accesses ≡ layout.access_rows
+  pub rows : length m.rows ≡ layout.most_tasks
+  pub accesses : length m.accesses ≡ layout.most_accesses
 
 -- 1 for a task that is not over, and for a notice that is to be given
 abbrev pub unfinished : Status → ℕ
@@ -38,16 +40,15 @@ notices free = 0
 notices (telling a f) = 1
 notices (working i n) = 0
 
--- The tasks lie in these numbers. What this does not speak of is left to the program: rows past the last task and the last access, spare
--- columns and the address; in a part the numbers without a name, slots without an entry, and what a free worker's stand is about; parts
--- past the last worker's; the next access while no task is open. They may be any numbers, before and after: what is held after an
--- operation does not depend on them.
+-- The tasks lie in these rows and numbers. What this does not speak of is left to the program: rows past the last task and the last access,
+-- and the address; in a part the numbers without a name, slots without an entry, and what a free worker's stand is about; parts past the
+-- last worker's. They may be anything, before and after: what is held after an operation does not depend on them.
 pub record HoldsTasks (W : ℕ) (ts : List Task) (m : TaskMemory) (parts : ℕ → List ℕ) (t : Tasks) (st : ℕ → Stand) : Type 0 where
   pub tasks : m.tally.tasks ≡ length ts
   pub stored : (v : ℕ) → v < W → Stored (parts v) (st v) (t.mail v) (t.adds v)
   pub task_rows_lem : TaskRows ts m.rows t.count t.status t.runner t.receipt t.ending
   pub access_rows_lem : AccessRows ts m.accesses t.flags
-  pub creation : Making m.tally.opened m.tally.task m.tally.access t.creation
+  pub creation : Making m.tally.task m.tally.access t.creation
   -- tasks that are not over; messages and notices that are pending
   pub left : m.tally.left ≡ sum (length ts) (λ i. unfinished (t.status i))
   pub pending : m.tally.pending ≡ sum W (λ v. length (t.mail v) + notices (st v))
@@ -103,12 +104,12 @@ abbrev pub its_creating : List Task → Tasks → Stand → ℕ → Option Op
 its_creating ts t x w = as_op (creating ts t.creation)
 
 -- where the accesses of the task in creation end, by its row
-abbrev pub end_of : Tally → List ℕ → ℕ
-end_of n rows = task_number rows n.task layout.first + task_number rows n.task layout.accesses
+abbrev pub end_of : Tally → List TaskRow → ℕ
+end_of n rows = (task_row rows n.task).first + (task_row rows n.task).accesses
 
 -- whether tasks are still to be created, by the numbers
 unfoldable pub to_create : Tally → Bool
-to_create n = elim (eqb n.opened 0) [ true ↦ ltb n.task n.tasks | false ↦ true ]
+to_create n = elim n.access [ None ↦ ltb n.task n.tasks | Some a ↦ true ]
 
 -- whether no task is left and nothing is pending, by the numbers
 abbrev pub nothing_left : Tally → Bool
@@ -116,4 +117,4 @@ nothing_left n = eqb n.left 0 && eqb n.pending 0
 
 -- the numbers of a plan of so many tasks, with nothing done
 abbrev pub fresh_tally : ℕ → Tally
-fresh_tally tasks = record { tasks = tasks; opened = 0; task = 0; access = 0; left = tasks; pending = 0 }
+fresh_tally tasks = record { tasks = tasks; task = 0; access = None; left = tasks; pending = 0 }

@@ -1,80 +1,111 @@
--- Tasks and accesses as rows of numbers.
-use Rattle.std.specs.Prelude.{ℕ, ◌+◌, ◌*◌, ◌<◌, ◌≡◌, List, length, get_or, set, replicate}
-use Rattle.std.proofs.lemmas.List.Edits.{sets}
+-- Tasks and accesses in their rows.
+use Rattle.std.specs.Prelude.{ℕ, ◌<◌, ◌≡◌, Bool, false, List, length, get_or, set, Option, None}
 use Rattle.plan.specs.Plan.{Task}
 use Rattle.tasks.specs.Accesses as plan
 use Rattle.tasks.specs.Accesses.{task_at}
 use Rattle.tasks.specs.Flags.{Flags, flag_number}
-use Rattle.tasks.specs.Tasks.{Status}
-use Rattle.memory.specs.Layout as layout
-use Rattle.memory.specs.Codes.{status_code, option_code}
+use Rattle.tasks.specs.Tasks as tasks
+use Rattle.memory.specs.Codes.{status_of, reader_number, option_of}
+use Rattle.memory.specs.declared.rows.Status.{Status}
+use Rattle.memory.specs.declared.rows.Status.TheVariants.{New, Held, Running}
+use Rattle.memory.specs.declared.rows.TaskRow.{TaskRow}
+use Rattle.memory.specs.declared.rows.AccessRow.{AccessRow}
 use Rattle.memory.specs.declared.rows.Outcome.{Outcome}
 
--- the numbers in column k of the first n rows, which are so wide
-abbrev pub Column : ℕ → ℕ → List ℕ → ℕ → (ℕ → ℕ) → Type 0
-Column wide n rows k f = (i : ℕ) → i < n → get_or rows (wide * i + k) 0 ≡ f i
-
--- the number in column k of a task's row, and of an access's
-abbrev pub task_number : List ℕ → ℕ → ℕ → ℕ
-task_number rows i k = get_or rows (layout.task_row * i + k) 0
-
-abbrev pub access_number : List ℕ → ℕ → ℕ → ℕ
-access_number rows a k = get_or rows (layout.access_row * a + k) 0
-
-pub record TaskRows (ts : List Task) (rows : List ℕ) (counts : ℕ → ℕ) (statuses : ℕ → Status) (runners receipts endings : ℕ → ℕ) : Type 0
-  where
-    pub count : Column layout.task_row (length ts) rows layout.count counts
-    pub status : Column layout.task_row (length ts) rows layout.status (λ i. status_code (statuses i))
-    pub runner : Column layout.task_row (length ts) rows layout.runner runners
-    pub receipt : Column layout.task_row (length ts) rows layout.receipt receipts
-    pub ending : Column layout.task_row (length ts) rows layout.ending endings
-    -- of the plan: the cost, the number of the first access, and how many there are
-    pub cost : Column layout.task_row (length ts) rows layout.cost (λ i. (task_at ts i).cost)
-    pub first : Column layout.task_row (length ts) rows layout.first (plan.first ts)
-    pub accesses : Column layout.task_row (length ts) rows layout.accesses (λ i. length (task_at ts i).accesses)
-
-pub record AccessRows (ts : List Task) (rows : List ℕ) (set : ℕ → Flags) : Type 0 where
-  pub flags : Column layout.access_row (plan.total ts) rows layout.flags (λ a. flag_number (set a))
-  -- of the plan: the task, 1 for a reader, the access before at the address or none, and the one after
-  pub task : Column layout.access_row (plan.total ts) rows layout.task (plan.task_of ts)
-  pub reader : Column layout.access_row (plan.total ts) rows layout.reader (plan.reader ts)
-  pub prev : Column layout.access_row (plan.total ts) rows layout.prev (λ a. option_code (plan.prev ts a))
-  pub next : Column layout.access_row (plan.total ts) rows layout.next (plan.next ts)
-
--- ---- rows that are laid, changed and shown
-
 -- the row of a task that is not yet created
-abbrev pub new_task : ℕ → ℕ → ℕ → List ℕ
+abbrev pub new_task : ℕ → ℕ → ℕ → TaskRow
 new_task cost first accesses =
-    set (set (set (replicate layout.task_row 0) layout.cost cost) layout.first first) layout.accesses accesses
+    record { count = 0; status = New; runner = 0; receipt = 0; ending = 0; cost = cost; first = first; accesses = accesses }
 
 -- the row of an access without flags
-abbrev pub new_access : ℕ → ℕ → ℕ → ℕ → ℕ → List ℕ
+abbrev pub new_access : ℕ → Bool → Option ℕ → ℕ → ℕ → AccessRow
 new_access task reader prev next address =
-    set (set (set (set (set (replicate layout.access_row 0) layout.task task) layout.reader reader) layout.prev prev) layout.next next)
-    layout.address address
+    record { flags = 0; task = task; reader = reader; prev = prev; next = next; address = address }
 
-abbrev pub with_task : List ℕ → ℕ → List ℕ → List ℕ
-with_task rows i row = sets rows (layout.task_row * i) row
+-- what stands for a row that there is not
+abbrev pub no_task : TaskRow
+no_task = new_task 0 0 0
 
-abbrev pub with_access : List ℕ → ℕ → List ℕ → List ℕ
-with_access rows a row = sets rows (layout.access_row * a) row
+abbrev pub no_access : AccessRow
+no_access = new_access 0 false None 0 0
+
+-- the row of a task, and of an access
+abbrev pub task_row : List TaskRow → ℕ → TaskRow
+task_row rows i = get_or rows i no_task
+
+abbrev pub access_row : List AccessRow → ℕ → AccessRow
+access_row rows a = get_or rows a no_access
+
+-- what the row of task i tells of it: by the run, and of the plan the cost, the number of the first access, and how many there are
+abbrev pub row_of : List Task → ℕ → ℕ → tasks.Status → ℕ → ℕ → ℕ → TaskRow
+row_of ts i count status runner receipt ending =
+    record {
+      count = count;
+      status = status_of status;
+      runner = runner;
+      receipt = receipt;
+      ending = ending;
+      cost = (task_at ts i).cost;
+      first = plan.first ts i;
+      accesses = length (task_at ts i).accesses;
+    }
+
+abbrev pub TaskRows : List Task → List TaskRow → (ℕ → ℕ) → (ℕ → tasks.Status) → (ℕ → ℕ) → (ℕ → ℕ) → (ℕ → ℕ) → Type 0
+TaskRows ts rows counts statuses runners receipts endings =
+    (i : ℕ) → i < length ts → task_row rows i ≡ row_of ts i (counts i) (statuses i) (runners i) (receipts i) (endings i)
+
+pub record AccessRows (ts : List Task) (rows : List AccessRow) (set : ℕ → Flags) : Type 0 where
+  pub flags : (a : ℕ) → a < plan.total ts → (access_row rows a).flags ≡ flag_number (set a)
+  -- of the plan: the task, 1 for a reader, the access before at the address or none, and the one after
+  pub task : (a : ℕ) → a < plan.total ts → (access_row rows a).task ≡ plan.task_of ts a
+  pub reader : (a : ℕ) → a < plan.total ts → reader_number (access_row rows a).reader ≡ plan.reader ts a
+  pub prev : (a : ℕ) → a < plan.total ts → (access_row rows a).prev ≡ option_of (plan.prev ts a)
+  pub next : (a : ℕ) → a < plan.total ts → (access_row rows a).next ≡ plan.next ts a
+
+-- ---- rows that are changed and shown
+
+-- a task's row with another count and status
+abbrev pub counted : TaskRow → ℕ → Status → TaskRow
+counted row count status =
+    record {
+      count = count;
+      status = status;
+      runner = row.runner;
+      receipt = row.receipt;
+      ending = row.ending;
+      cost = row.cost;
+      first = row.first;
+      accesses = row.accesses;
+    }
 
 -- with task i held out, and with it received by worker w at a time
-abbrev pub held_rows : List ℕ → ℕ → List ℕ
-held_rows rows i = set rows (layout.task_row * i + layout.status) layout.held
+abbrev pub held_rows : List TaskRow → ℕ → List TaskRow
+held_rows rows i = let row = task_row rows i in set rows i (counted row row.count Held)
 
-abbrev pub received_rows : List ℕ → ℕ → ℕ → ℕ → List ℕ
+abbrev pub received_rows : List TaskRow → ℕ → ℕ → ℕ → List TaskRow
 received_rows rows i w time =
-    let row = layout.task_row * i in
-    set (set (set rows (row + layout.status) layout.running) (row + layout.runner) w) (row + layout.receipt) time
+    let row = task_row rows i in
+    set rows i
+    (record {
+      count = row.count;
+      status = Running;
+      runner = w;
+      receipt = time;
+      ending = row.ending;
+      cost = row.cost;
+      first = row.first;
+      accesses = row.accesses;
+    })
+
+-- with flags of access a
+abbrev pub flagged_rows : List AccessRow → ℕ → ℕ → List AccessRow
+flagged_rows rows a flags =
+    let row = access_row rows a in
+    set rows a
+    (record { flags = flags; task = row.task; reader = row.reader; prev = row.prev; next = row.next; address = row.address })
 
 -- what has become of task i, as its row has it
-abbrev pub outcome_at : List ℕ → ℕ → Outcome
+abbrev pub outcome_at : List TaskRow → ℕ → Outcome
 outcome_at rows i =
-    record {
-      status = task_number rows i layout.status;
-      runner = task_number rows i layout.runner;
-      receipt = task_number rows i layout.receipt;
-      ending = task_number rows i layout.ending;
-    }
+    let row = task_row rows i in
+    record { status = row.status; runner = row.runner; receipt = row.receipt; ending = row.ending }

@@ -1,9 +1,9 @@
 -- A worker in the tasks' part of its share: where it stands, its mailbox and its tasks to add.
-use Rattle.std.specs.Prelude.{ℕ, ◌+◌, ◌-◌, ◌*◌, ◌%◌, ◌<◌, ◌≡◌, List, map, length, get_or, set}
+use Rattle.std.specs.Prelude.{ℕ, ◌+◌, ◌-◌, ◌*◌, ◌%◌, ◌<◌, ◌≡◌, List, map, length, get_or, set, Option}
 use Rattle.runs.specs.Circular.{entries}
 use Rattle.tasks.specs.Tasks.{Message, Stand}
 use Rattle.memory.specs.Layout as layout
-use Rattle.memory.specs.Codes.{Coded, letter}
+use Rattle.memory.specs.Codes.{Coded, code_of, coded_by, letter}
 use Rattle.memory.specs.declared.share.Letter.{Letter}
 
 module _ (own : List ℕ) where
@@ -13,7 +13,7 @@ module _ (own : List ℕ) where
       record {
         to = get_or own (at + layout.mail_to) 0;
         flags = get_or own (at + layout.mail_flags) 0;
-        sender = get_or own (at + layout.mail_sender) 0;
+        sender = coded_by (get_or own (at + layout.mail_sender) 0);
       }
 
   abbrev pub add_slot : ℕ → ℕ
@@ -48,10 +48,10 @@ module _ (own : List ℕ) where
       set (set own layout.adds_at ((get_or own layout.adds_at 0 + 1) % layout.add_room)) layout.adds_count (get_or own layout.adds_count 0 - 1)
 
   -- with one more message, in the slot behind the last
-  abbrev pub posted : ℕ → ℕ → ℕ → List ℕ
+  abbrev pub posted : ℕ → ℕ → Option ℕ → List ℕ
   posted to flags sender =
       let at = layout.mail_slots + layout.mail_slot * ((get_or own layout.mail_at 0 + get_or own layout.mail_count 0) % layout.mail_room) in
-      set (set (set (set own (at + layout.mail_to) to) (at + layout.mail_flags) flags) (at + layout.mail_sender) sender) layout.mail_count
+      set (set (set (set own (at + layout.mail_to) to) (at + layout.mail_flags) flags) (at + layout.mail_sender) (code_of sender)) layout.mail_count
       (get_or own layout.mail_count 0 + 1)
 
   -- the oldest message, and the part without it

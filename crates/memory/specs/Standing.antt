@@ -1,11 +1,10 @@
 -- What the numbers of a part, and of the creation of tasks, say a worker is to do with the tasks.
-use Rattle.std.specs.Prelude.{ℕ, zero, suc, ◌<◌, ◌≡◌, ◌⊎◌, Bool, List, [], ◌∷◌, length, get_or}
+use Rattle.std.specs.Prelude.{ℕ, zero, suc, ◌<◌, ◌≡◌, ◌⊎◌, Bool, List, [], ◌∷◌, length, get_or, Some, None}
 use Rattle.std.proofs.Common.{arith, ⊎_elim}
 use Rattle.std.proofs.Math.Path.{refl}
 use Rattle.std.proofs.Math.Bool.{true, false}
 use Rattle.std.proofs.Math.Option.{none, some}
 use Rattle.std.proofs.Math.Dec.{ltb}
-use borrow.Author.Tests.{eq-eqb, ne_eqb}
 use Rattle.runs.specs.Update.{clash}
 use Rattle.runs.specs.Stores.{none_of, first_of}
 use Rattle.plan.specs.Plan.{Task}
@@ -50,15 +49,15 @@ module _ {own : List ℕ} {x : Stand} {ms : List Message} {js : List ℕ} (h : S
 -- ---- creating
 
 module _ (ts : List Task) (n : Tally) (all : n.tasks ≡ length ts) where
-  to_open : (i : ℕ) → n.opened ≡ 0 → n.task ≡ i → to_create n ≡ ltb i (length ts)
+  to_open : (i : ℕ) → n.task ≡ i → n.access ≡ None → to_create n ≡ ltb i (length ts)
   unfolding to_create
-  to_open i z e = rw (to_create, eq-eqb n.opened 0 z, all, e)
+  to_open i e z = rw (to_create, z, all, e)
 
-  to_link : n.opened ≡ 1 → to_create n ≡ true
+  to_link : (a : ℕ) → n.access ≡ Some a → to_create n ≡ true
   unfolding to_create
-  to_link z = rw (to_create, ne_eqb n.opened 0 (λ e. omega arith))
+  to_link a z = rw (to_create, z)
 
-  pub creates : (x : Creation) → Making n.opened n.task n.access x → to_create n ≡ true → (d : Duty) × (creating ts x ≡ some d)
+  pub creates : (x : Creation) → Making n.task n.access x → to_create n ≡ true → (d : Duty) × (creating ts x ≡ some d)
   unfolding creating
   creates (opening i) made e = (opens i, rw (creating, ← to_open i made.0 made.1, e))
   creates (linking i a) made e = go (ltb a (first ts (suc i))) refl
@@ -67,7 +66,7 @@ module _ (ts : List Task) (n : Tally) (all : n.tasks ≡ length ts) where
       go true z = (links i a, refl)
       go false z = (closes i, refl)
 
-  pub all_created : (x : Creation) → Making n.opened n.task n.access x → to_create n ≡ false → creating ts x ≡ none
+  pub all_created : (x : Creation) → Making n.task n.access x → to_create n ≡ false → creating ts x ≡ none
   unfolding creating
   all_created (opening i) made e = rw (creating, ← to_open i made.0 made.1, e)
-  all_created (linking i a) made e = clash (let z = to_link made.0 in cc)
+  all_created (linking i a) made e = clash (let z = to_link a made.1 in cc)

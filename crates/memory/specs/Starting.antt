@@ -10,6 +10,8 @@ use Rattle.memory.specs.Layout as layout
 use Rattle.memory.specs.Rows.{TaskRows, AccessRows}
 use Rattle.memory.specs.Shares.{mail_slot, add_slot, Stored}
 use Rattle.memory.specs.Memory.{memory, HoldsTasks, fresh_tally}
+use Rattle.memory.specs.declared.rows.TaskRow.{TaskRow}
+use Rattle.memory.specs.declared.rows.AccessRow.{AccessRow}
 
 -- a part of zeros: the worker is free and has neither mail nor tasks to add
 pub part_starts : (own : List ℕ) → length own ≡ layout.part → ((k : ℕ) → get_or own k 0 ≡ 0) → Stored own free [] []
@@ -23,7 +25,7 @@ part_starts own long zeros =
       mail = rw (zeros layout.mail_count) (entries_none (mail_slot own) layout.mail_room (get_or own layout.mail_at 0));
     }
 
-pub starts : (W : ℕ) (ts : List Task) (rows accesses : List ℕ) (parts : ℕ → List ℕ)
+pub starts : (W : ℕ) (ts : List Task) (rows : List TaskRow) (accesses : List AccessRow) (parts : ℕ → List ℕ)
     → TaskRows ts rows (λ _. 0) (λ _. new) (λ _. 0) (λ _. 0) (λ _. 0) → AccessRows ts accesses (λ _. no_flag)
     → ((v : ℕ) → v < W → Stored (parts v) free [] [])
     → HoldsTasks W ts (memory (fresh_tally (length ts)) rows accesses) parts start (λ _. free)

@@ -1,12 +1,12 @@
 -- A worker in its part, after stores to single numbers of the part.
-use Rattle.std.specs.Prelude.{ℕ, ◌+◌, ◌-◌, ◌*◌, ◌%◌, ◌≤◌, ◌<◌, ◌≡◌, refl, ◌≢◌, false, List, [], ◌∷◌, ◌++◌, map, length, get_or, set, eqb}
-use Rattle.std.proofs.Common.{sym, ◌∙◌, arith, add-one, mod-eq_of_lt, length-set, get_or-set_same, get_or-set_other}
+use Rattle.std.specs.Prelude.{ℕ, ◌+◌, ◌-◌, ◌*◌, ◌%◌, ◌≤◌, ◌<◌, ◌≡◌, refl, ◌≢◌, false, List, [], ◌∷◌, ◌++◌, map, length, get_or, set, eqb, Option, Some, None}
+use Rattle.std.proofs.Common.{sym, ap, ◌∙◌, arith, add-one, mod-eq_of_lt, length-set, get_or-set_same, get_or-set_other}
 use Rattle.std.proofs.lemmas.List.{map-append, set-get_or}
 use Rattle.std.proofs.lemmas.Bool.{eqb-false}
 use Rattle.runs.specs.Circular.{entries, entries_mod, entries_pop, entries_same, entries_push}
 use Rattle.tasks.specs.Tasks.{Message, Stand, working}
 use Rattle.memory.specs.Layout as layout
-use Rattle.memory.specs.Codes.{Coded, letter}
+use Rattle.memory.specs.Codes.{Coded, code_of, coded_by, letter}
 use Rattle.memory.specs.Shares.{mail_slot, add_slot, Stored, standing, added, oldest_add, without_add, posted, oldest_mail, without_mail}
 use Rattle.memory.specs.declared.share.Letter.{Letter}
 
@@ -27,6 +27,11 @@ StandIn own p = Coded (get_or own layout.stand 0) (get_or own layout.about 0) (g
 
 stored : {own : List ℕ} {p : Stand} {ms : List Message} {js : List ℕ} → StandIn own p → Lists own (map letter ms) js → Stored own p ms js
 stored c h = record { long = h.long; stand = c; adds_at_lem = h.adds_at_lem; adds = h.adds; mail_at_lem = h.mail_at_lem; mail = h.mail }
+
+-- a sender in its number, read back
+pub code_back : (o : Option ℕ) → coded_by (code_of o) ≡ o
+code_back None = refl
+code_back (Some n) = refl
 
 letter_equal : {a b : Letter} → a.to ≡ b.to → a.flags ≡ b.flags → a.sender ≡ b.sender → a ≡ b
 letter_equal first second third = λ t. record { to = first t; flags = second t; sender = third t }
@@ -59,7 +64,7 @@ module _ (own : List ℕ) (i v : ℕ) where
   slot_kept : (k : ℕ) → ((j : ℕ) → j < layout.mail_slot → letter_at k + j ≢ i) → mail_slot (set own i v) k ≡ mail_slot own k
   slot_kept k free =
       letter_equal (kept _ (free layout.mail_to (omega arith))) (kept _ (free layout.mail_flags (omega arith)))
-      (kept _ (free layout.mail_sender (omega arith)))
+      (ap coded_by (kept _ (free layout.mail_sender (omega arith))))
 
   mail_kept : (at n : ℕ) → ((k : ℕ) → k < n → (j : ℕ) → j < layout.mail_slot → letter_at ((at + k) % layout.mail_room) + j ≢ i)
       → entries (mail_slot (set own i v)) layout.mail_room at n ≡ entries (mail_slot own) layout.mail_room at n
@@ -102,7 +107,7 @@ module _ {own : List ℕ} {ls : List Letter} {js : List ℕ} (h : Lists own ls j
       → Lists new (entries (mail_slot own) layout.mail_room b l) (entries (add_slot own) layout.add_room a m)
   lists_head new a m b l long slots adds_at_lem adds_count_lem mail_at_lem mail_count_lem small_a small_b =
       let letters : (k : ℕ) → mail_slot new k ≡ mail_slot own k =
-      λ k. letter_equal (slots _ (omega arith)) (slots _ (omega arith)) (slots _ (omega arith)) in
+      λ k. letter_equal (slots _ (omega arith)) (slots _ (omega arith)) (ap coded_by (slots _ (omega arith))) in
       record {
         long = long;
         adds_at_lem = rw adds_at_lem small_a;
@@ -229,7 +234,7 @@ module _ {own : List ℕ} {p : Stand} {ms : List Message} {js : List ℕ} (h : S
 
 module _ {own : List ℕ} {p : Stand} {ms : List Message} {js : List ℕ} (h : Stored own p ms js)
     (room : get_or own layout.mail_count 0 < layout.mail_room) where
-  pub stored_post : (a b c : ℕ) (m : Message) → letter m ≡ record { to = a; flags = b; sender = c }
+  pub stored_post : (a b : ℕ) (c : Option ℕ) (m : Message) → letter m ≡ record { to = a; flags = b; sender = c }
       → Stored (posted own a b c) p (ms ++ m ∷ []) js
   stored_post a b c m is =
       let at = get_or own layout.mail_at 0 in
@@ -238,25 +243,27 @@ module _ {own : List ℕ} {p : Stand} {ms : List Message} {js : List ℕ} (h : S
       let i = letter_at r in
       let one = set own (i + layout.mail_to) a in
       let two = set one (i + layout.mail_flags) b in
-      let new = set two (i + layout.mail_sender) c in
+      let code = code_of c in
+      let new = set two (i + layout.mail_sender) code in
       let at1 : get_or one layout.mail_at 0 ≡ at = kept own (i + layout.mail_to) a layout.mail_at (λ e. omega arith) in
       let n1 : get_or one layout.mail_count 0 ≡ n = kept own (i + layout.mail_to) a layout.mail_count (λ e. omega arith) in
       let at2 : get_or two layout.mail_at 0 ≡ at = kept one (i + layout.mail_flags) b layout.mail_at (λ e. omega arith) ∙ at1 in
       let n2 : get_or two layout.mail_count 0 ≡ n = kept one (i + layout.mail_flags) b layout.mail_count (λ e. omega arith) ∙ n1 in
-      let at3 : get_or new layout.mail_at 0 ≡ at = kept two (i + layout.mail_sender) c layout.mail_at (λ e. omega arith) ∙ at2 in
+      let at3 : get_or new layout.mail_at 0 ≡ at = kept two (i + layout.mail_sender) code layout.mail_at (λ e. omega arith) ∙ at2 in
       let first = stored_letter h room (i + layout.mail_to) a layout.mail_to (omega arith) refl in
       let second = stored_letter first (rw n1 room) (i + layout.mail_flags) b layout.mail_flags (omega arith) (rw (at1, n1) refl) in
-      let third = stored_letter second (rw n2 room) (i + layout.mail_sender) c layout.mail_sender (omega arith) (rw (at2, n2) refl) in
+      let third = stored_letter second (rw n2 room) (i + layout.mail_sender) code layout.mail_sender (omega arith) (rw (at2, n2) refl) in
       let to : get_or new (i + layout.mail_to) 0 ≡ a =
-      kept two (i + layout.mail_sender) c (i + layout.mail_to) (λ e. omega arith)
+      kept two (i + layout.mail_sender) code (i + layout.mail_to) (λ e. omega arith)
       ∙ kept one (i + layout.mail_flags) b (i + layout.mail_to) (λ e. omega arith)
       ∙ get_or-set_same own (i + layout.mail_to) a 0 (omega (arith, h.long)) in
       let flags : get_or new (i + layout.mail_flags) 0 ≡ b =
-      kept two (i + layout.mail_sender) c (i + layout.mail_flags) (λ e. omega arith)
+      kept two (i + layout.mail_sender) code (i + layout.mail_flags) (λ e. omega arith)
       ∙ get_or-set_same one (i + layout.mail_flags) b 0 (omega (arith, first.long)) in
-      let sender : get_or new (i + layout.mail_sender) 0 ≡ c = get_or-set_same two (i + layout.mail_sender) c 0 (omega (arith, second.long)) in
+      let sender : coded_by (get_or new (i + layout.mail_sender) 0) ≡ c =
+      rw (get_or-set_same two (i + layout.mail_sender) code 0 (omega (arith, second.long))) (code_back c) in
       let old : (k : ℕ) → k < layout.mail_room → k ≢ r → mail_slot new k ≡ mail_slot own k =
-      λ k below other. slot_kept two (i + layout.mail_sender) c k (λ x low e. other (omega arith))
+      λ k below other. slot_kept two (i + layout.mail_sender) code k (λ x low e. other (omega arith))
       ∙ slot_kept one (i + layout.mail_flags) b k (λ x low e. other (omega arith))
       ∙ slot_kept own (i + layout.mail_to) a k (λ x low e. other (omega arith)) in
       let more : entries (mail_slot new) layout.mail_room at (n + 1) ≡ map letter (ms ++ m ∷ []) =

@@ -1,62 +1,15 @@
-// Where tasks, accesses and a worker's share lie in numbers: `specs/Layout.antt` has the same names.
+// How many tasks and accesses there is room for, and where a worker's share lies in numbers: `specs/Layout.antt` has the same names.
 
-// What there is room for.
+// What there is room for. The tasks' side has its own sizes, as another plan's reader would: a setup within both is `Sized`.
 pub const MOST_WORKERS: usize = 32;
 
 pub const MOST_TASKS: usize = 128;
 
 const MOST_TASK_ACCESSES: usize = 4;
 
-const MOST_ACCESSES: usize = MOST_TASKS * MOST_TASK_ACCESSES;
+pub const MOST_ACCESSES: usize = MOST_TASKS * MOST_TASK_ACCESSES;
 
-// A task's row and its columns. The last columns are spare.
-pub const TASK_ROW: usize = 16;
-
-pub const TASK_ROWS: usize = MOST_TASKS * TASK_ROW;
-
-pub const COUNT: usize = 0;
-
-pub const STATUS: usize = 1;
-
-pub const RUNNER: usize = 2;
-
-pub const RECEIPT: usize = 3;
-
-pub const ENDING: usize = 4;
-
-pub const COST: usize = 5;
-
-pub const FIRST: usize = 6;
-
-pub const ACCESSES: usize = 7;
-
-// An access's row and its columns. The address serves only to lay the rows.
-pub const ACCESS_ROW: usize = 8;
-
-pub const ACCESS_ROWS: usize = MOST_ACCESSES * ACCESS_ROW;
-
-pub const FLAGS: usize = 0;
-
-pub const TASK: usize = 1;
-
-pub const READER: usize = 2;
-
-pub const PREV: usize = 3;
-
-pub const NEXT: usize = 4;
-
-pub(crate) const ADDRESS: usize = 5;
-
-// Where a task's label stands in the plan's text: a row of two numbers.
-pub(crate) const LABEL_ROW: usize = 2;
-
-pub const LABEL_ROWS: usize = MOST_TASKS * LABEL_ROW;
-
-pub(crate) const LABEL_PLACE: usize = 0;
-
-pub(crate) const LABEL_SIZE: usize = 1;
-
-// A worker's share: the device's part, and behind it the tasks'.
+// A worker's share stays numbers, as it lies in the store of numbers that the caller lends: the device's part, and behind it the tasks'.
 pub const SHARE: usize = 256;
 
 pub const STATION: usize = 96;
@@ -94,22 +47,9 @@ pub(crate) const ADD_SLOTS: usize = 32;
 
 pub(crate) const ADD_ROOM: u64 = 128;
 
-// Stands.
+// Stands: numbers, as a share lies in the lent store.
 pub const FREE: u64 = 0;
 
 pub const TELLING: u64 = 1;
 
 pub const WORKING: u64 = 2;
-
-// Statuses.
-pub const NEW: u64 = 0;
-
-pub const WAITING: u64 = 1;
-
-pub const READY: u64 = 2;
-
-pub const HELD: u64 = 3;
-
-pub const RUNNING: u64 = 4;
-
-pub const OVER: u64 = 5;

@@ -1,92 +1,96 @@
-// The rows of tasks and accesses, for those who lay them and those who show them. `specs/Rows.antt` says what a row is.
-ghost use Rattle.std.specs.Prelude.{◌≡◌, ◌+◌, ◌*◌, ◌≤◌, ◌<◌, length, set, replicate};
-ghost use Rattle.std.proofs.lemmas.List.Edits.{sets};
-ghost use Rattle.memory.specs.Layout as layout;
-ghost use Rattle.memory.specs.Rows.{access_number, new_task, new_access, with_task, with_access, outcome_at};
+// The rows of tasks and accesses. `specs/Rows.antt` says what they tell of a plan's tasks.
+ghost use Rattle.std.specs.Prelude.{◌≡◌, ◌<◌, length};
+ghost use Rattle.memory.specs.Rows.{new_task, outcome_at};
 
-use super::layout;
+// What has become of a task.
+#[derive(Clone, Copy, PartialEq, Eq, PartialOrd, Ord)]
+pub enum Status {
+    New,
+    Waiting,
+    Ready,
+    Held,
+    Running,
+    Over,
+}
 
-// What has become of a task: its status as a number, who runs it, and the times of its receipt and its ending.
+// A task: its count, what has become of it, who runs it, and the times of its receipt and its ending; of the plan, what it costs, the
+// number of its first access, and how many there are. Runner and times are no part of the status: `TaskRows` has them of every task.
+#[derive(Clone, Copy)]
+pub struct TaskRow {
+    pub count: u64,
+    pub status: Status,
+    pub runner: u64,
+    pub receipt: u64,
+    pub ending: u64,
+    pub cost: u64,
+    pub first: u64,
+    pub accesses: u64,
+}
+
+// An access: its flags; of the plan, its task, whether it only reads, the access before it at its address, if there is one, the number of
+// the one after it, and the address, which serves only to lay the rows.
+#[derive(Clone, Copy)]
+pub struct AccessRow {
+    pub flags: u64,
+    pub task: u64,
+    pub reader: bool,
+    pub prev: Option<u64>,
+    pub next: u64,
+    pub address: u64,
+}
+
+// What stands where no task and no access is laid yet.
+pub const NO_TASK: TaskRow = TaskRow {
+    count: 0,
+    status: Status::New,
+    runner: 0,
+    receipt: 0,
+    ending: 0,
+    cost: 0,
+    first: 0,
+    accesses: 0,
+};
+
+pub const NO_ACCESS: AccessRow = AccessRow {
+    flags: 0,
+    task: 0,
+    reader: false,
+    prev: None,
+    next: 0,
+    address: 0,
+};
+
+// What has become of a task, who runs it, and the times of its receipt and its ending.
 #[derive(Clone, Copy)]
 pub struct Outcome {
-    pub status: u64,
+    pub status: Status,
     pub runner: u64,
     pub receipt: u64,
     pub ending: u64,
 }
 
-// Sets so many numbers from `at` on to 0.
-fn clear(rows: &mut [u64], at: usize, size: usize)
-    requires { at + size ≤ length rows.old }
-    ensures { rows.new ≡ sets rows.old at (replicate size 0) }
+// The row of a task that is not yet created.
+pub fn new_task(cost: u64, first: u64, accesses: u64) -> TaskRow
+    ensures { result ≡ new_task cost first accesses }
 {
-    let mut k: usize = 0;
-    while k < size {
-        rows[at + k] = 0;
-        k += 1;
+    TaskRow {
+        cost,
+        first,
+        accesses,
+        ..NO_TASK
     }
 }
 
-// Lays the row of a task that is not yet created.
-pub fn lay_task(rows: &mut [u64], task: usize, cost: u64, first: u64, accesses: u64)
-    requires { (length rows.old ≡ layout.task_rows) × (task < layout.most_tasks) }
-    ensures { rows.new ≡ with_task rows.old task (new_task cost first accesses) }
-{
-    let row = layout::TASK_ROW * task;
-    clear(rows, row, layout::TASK_ROW);
-    rows[row + layout::COST] = cost;
-    rows[row + layout::FIRST] = first;
-    rows[row + layout::ACCESSES] = accesses;
-}
-
-// Lays the row of an access without flags.
-pub fn lay_access(
-    rows: &mut [u64],
-    access: usize,
-    task: u64,
-    reader: u64,
-    prev: u64,
-    next: u64,
-    address: u64,
-)
-    requires { (length rows.old ≡ layout.access_rows) × (access < layout.most_accesses) }
-    ensures { rows.new ≡ with_access rows.old access (new_access task reader prev next address) }
-{
-    let row = layout::ACCESS_ROW * access;
-    clear(rows, row, layout::ACCESS_ROW);
-    rows[row + layout::TASK] = task;
-    rows[row + layout::READER] = reader;
-    rows[row + layout::PREV] = prev;
-    rows[row + layout::NEXT] = next;
-    rows[row + layout::ADDRESS] = address;
-}
-
-// The address of an access, while the rows are laid.
-pub fn address(rows: &[u64], access: usize) -> u64
-    requires { (length rows.now ≡ layout.access_rows) × (access < layout.most_accesses) }
-    ensures { result ≡ access_number rows.now access layout.address }
-{
-    rows[layout::ACCESS_ROW * access + layout::ADDRESS]
-}
-
-// Sets which access comes after one.
-pub fn set_next(rows: &mut [u64], access: usize, next: u64)
-    requires { (length rows.old ≡ layout.access_rows) × (access < layout.most_accesses) }
-    ensures { rows.new ≡ set rows.old (layout.access_row * access + layout.next) next }
-{
-    rows[layout::ACCESS_ROW * access + layout::NEXT] = next;
-}
-
 // What has become of a task.
-pub fn outcome_of(rows: &[u64], task: usize) -> Outcome
-    requires { (length rows.now ≡ layout.task_rows) × (task < layout.most_tasks) }
+pub fn outcome_of(rows: &[TaskRow], task: usize) -> Outcome
+    requires { task < length rows.now }
     ensures { result ≡ outcome_at rows.now task }
 {
-    let row = layout::TASK_ROW * task;
+    let row = &rows[task];
     Outcome {
-        status: rows[row + layout::STATUS],
-        runner: rows[row + layout::RUNNER],
-        receipt: rows[row + layout::RECEIPT],
-        ending: rows[row + layout::ENDING],
+        status: row.status,
+        runner: row.runner,
+        receipt: row.receipt,
+        ending: row.ending,
     }
 }

@@ -1,10 +1,12 @@
-// The tasks' part of a worker's share: `specs/Shares.antt` says how a worker lies in it.
-ghost use Rattle.std.specs.Prelude.{◌≡◌, List, [], ◌∷◌, ◌++◌, ℕ, ◌<◌, length, get_or};
+// The tasks' part of a worker's share: `specs/Shares.antt` says how a worker lies in it. It stays numbers: the caller lends it, as a part of
+// the store of numbers.
+ghost use Rattle.std.specs.Prelude.{◌≡◌, List, [], ◌∷◌, ◌++◌, ℕ, ◌^◌, ◌<◌, length, get_or};
 ghost use Rattle.tasks.specs.Tasks.{Message, Stand};
 ghost use Rattle.memory.specs.Layout as layout;
-ghost use Rattle.memory.specs.Codes.{Coded, letter};
+ghost use Rattle.memory.specs.Codes.{Coded, code_of, letter};
 ghost use Rattle.memory.specs.Shares.{Stored, standing, added, oldest_add, without_add, posted, oldest_mail, without_mail};
 
+use super::codes::{code_of, coded_by};
 use super::layout;
 
 // Sets where the worker stands.
@@ -48,18 +50,19 @@ pub fn take_add(own: &mut [u64]) -> u64
     task
 }
 
-// A message in three numbers: where it goes, its flags, and the access that sends it and 1 more, or 0.
+// A message: where it goes, its flags, and the access that sends it, if one does. In the mailbox it is three numbers, the last the sender
+// and 1 more, or 0.
 #[derive(Clone, Copy)]
 pub struct Letter {
     pub to: u64,
     pub flags: u64,
-    pub sender: u64,
+    pub sender: Option<u64>,
 }
 
 // Puts a message behind those in the mailbox.
-pub fn post(own: &mut [u64], to: u64, flags: u64, sender: u64)
+pub fn post(own: &mut [u64], to: u64, flags: u64, sender: Option<u64>)
     requires { (length own.old ≡ layout.part) × (get_or own.old layout.mail_at 0 < layout.mail_room)
-        × (get_or own.old layout.mail_count 0 < layout.mail_room) }
+        × (get_or own.old layout.mail_count 0 < layout.mail_room) × (code_of sender < 2 ^ 64) }
     ensures numbers { own.new ≡ posted own.old to flags sender }
     ensures meaning { (p : Stand) (mail : List Message) (adds : List ℕ) (m : Message) →
         Stored own.old p mail adds → letter m ≡ record { to = to; flags = flags; sender = sender }
@@ -70,7 +73,7 @@ pub fn post(own: &mut [u64], to: u64, flags: u64, sender: u64)
     let at = layout::MAIL_SLOTS + layout::MAIL_SLOT * slot as usize;
     own[at + layout::MAIL_TO] = to;
     own[at + layout::MAIL_FLAGS] = flags;
-    own[at + layout::MAIL_SENDER] = sender;
+    own[at + layout::MAIL_SENDER] = code_of(sender);
     own[layout::MAIL_COUNT] = n + 1;
 }
 
@@ -87,7 +90,7 @@ pub fn take_mail(own: &mut [u64]) -> Letter
     let mail = Letter {
         to: own[at + layout::MAIL_TO],
         flags: own[at + layout::MAIL_FLAGS],
-        sender: own[at + layout::MAIL_SENDER],
+        sender: coded_by(own[at + layout::MAIL_SENDER]),
     };
     own[layout::MAIL_AT] = (slot + 1) % layout::MAIL_ROOM;
     own[layout::MAIL_COUNT] = own[layout::MAIL_COUNT] - 1;

@@ -5,14 +5,13 @@ ghost use Rattle.tasks.specs.Tasks.{Tasks, Stand};
 ghost use Rattle.tasks.specs.Playing.{finished};
 ghost use Rattle.memory.specs.Memory.{TaskMemory, memory, HoldsTasks, fresh_tally, nothing_left};
 
-// How many tasks there are; whether a task is open in its creation, which, and its next access; how many tasks are not over; how many
-// messages and notices are pending.
+// How many tasks there are; which is open in its creation, or is to be opened, and where it is open its next access; how many tasks are
+// not over; how many messages and notices are pending.
 #[derive(Clone, Copy)]
 pub struct Tally {
     pub tasks: u64,
-    pub opened: u64,
     pub task: u64,
-    pub access: u64,
+    pub access: Option<u64>,
     pub left: u64,
     pub pending: u64,
 }
@@ -22,10 +21,9 @@ pub fn fresh(tasks: u64) -> Tally
     ensures { result ≡ fresh_tally tasks }
 {
     Tally {
-        tasks: tasks,
-        opened: 0,
+        tasks,
         task: 0,
-        access: 0,
+        access: None,
         left: tasks,
         pending: 0,
     }
@@ -37,8 +35,5 @@ pub fn is_finished(n: Tally) -> bool
     ensures meaning { (m : TaskMemory) (W : ℕ) (ts : List Task) (parts : ℕ → List ℕ) (t : Tasks) (st : ℕ → Stand) →
         HoldsTasks W ts (memory n m.rows m.accesses) parts t st → result ≡ finished W ts t st }
 {
-    if n.left == 0 {
-        return n.pending == 0;
-    }
-    false
+    n.left == 0 && n.pending == 0
 }

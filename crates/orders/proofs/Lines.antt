@@ -9,7 +9,9 @@ use lib.ListN.{length, get_or, take, drop, length-append, length-take, drop_of_l
 use lib.Seq.{drop-cons, take_all}
 use Rattle.runs.specs.Update.{order}
 use Rattle.runs.specs.Picks.{Picks, run}
-use Rattle.plan.specs.Plan.{Plan, Order, rounds}
+use Rattle.plan.specs.Plan.{Plan}
+use Rattle.plan.specs.declared.order.Order.{Order}
+use Rattle.plan.specs.declared.order.Order.TheVariants as kinds
 use Rattle.plan.specs.Reading.{reading, accepted}
 use Rattle.plan.specs.Orders.{picks_of, picks_of_all}
 use Rattle.plan.specs.Accepted.{OrderFormed, WellFormed}
@@ -28,9 +30,13 @@ use Rattle.orders.proofs.Sizes.{picks_few}
 use Rattle.orders.proofs.AcceptedRuns.{playable, sized}
 use Rattle.orders.proofs.Limits.{limited_none, limited_full, limited_finished, limited_append, limited_picks, limited_going}
 
+-- past the last order line, where none is read
+abbrev pub no_order : Order
+no_order = kinds.Picks 0 0
+
 -- order line i, and the picks of those from line i on
 abbrev pub line_at : Plan → ℕ → Order
-line_at p i = get_or p.orders i (rounds 0)
+line_at p i = get_or p.orders i no_order
 
 abbrev picks_at : Plan → ℕ → List ℕ
 picks_at p i = picks_of p.workers (line_at p i)
@@ -69,7 +75,7 @@ module _ (text : List ℕ) (p : Plan) (e : reading text ≡ accepted p) where
   well = accepted_well_formed text p e
 
   pub line_formed : (i : ℕ) → i < length p.orders → OrderFormed p.workers (line_at p i)
-  line_formed i l = well.orders i l (rounds 0)
+  line_formed i l = well.orders i l no_order
 
   pub left_start : (limit : ℕ) → Left p limit 0 (start (setup_of p))
   unfolding after start
@@ -99,7 +105,7 @@ module _ (text : List ℕ) (p : Plan) (e : reading text ≡ accepted p) where
     module _ (here : i < length p.orders) where
       all_picks : picks_from_line p i ≡ picks_at p i ++ picks_from_line p (suc i)
       unfolding picks_of_all
-      all_picks = ap (picks_of_all p.workers) (drop-cons p.orders i (rounds 0) here)
+      all_picks = ap (picks_of_all p.workers) (drop-cons p.orders i no_order here)
 
       pub line_few : s.picks + (length (picks_at p i) + length (picks_from_line p (suc i))) < 2 ^ 42
       line_few = omega (arith, l.few, ap length all_picks, length-append (picks_at p i) (picks_from_line p (suc i)))

@@ -13,64 +13,24 @@ use Rattle.machine.specs.Step.{step, finished}
 use Rattle.machine.specs.Ranges.{Fit}
 use Rattle.machine.proofs.Safety.Traces.{step_picks}
 use Rattle.steps.specs.Layout.{shares_size}
-use Rattle.steps.specs.Memory.{share, Memory, Long, Holds}
+use Rattle.steps.specs.Memory.{share, Memory, Holds}
 use Rattle.orders.specs.Limited.{drawn_to, Under}
 use Rattle.orders.specs.Played.{LineAble, LinePlayed}
 use Rattle.orders.proofs.Limits.{drawn_full, drawn_finished, pick_fits, under_pick, drawn_pick}
 
--- ---- what is lent keeps its lengths, and the store what follows the shares
+-- ---- the store keeps its length, and what follows the shares
 
-pub record Kept (m₀ : Memory) (store₀ : List ℕ) (m : Memory) (store : List ℕ) : Type 0 where
-  pub wait : length m.wait ≡ length m₀.wait
-  pub registrations : length m.registrations ≡ length m₀.registrations
-  pub tickets : length m.tickets ≡ length m₀.tickets
-  pub cells : length m.cells ≡ length m₀.cells
-  pub device : length m.device ≡ length m₀.device
-  pub rows : length m.rows ≡ length m₀.rows
-  pub accesses : length m.accesses ≡ length m₀.accesses
+pub record Kept (store₀ store : List ℕ) : Type 0 where
   pub size : length store ≡ length store₀
   pub later : drop shares_size store ≡ drop shares_size store₀
 
-pub kept_start : {m : Memory} {store : List ℕ} → Kept m store m store
-kept_start =
-    record {
-      wait = refl;
-      registrations = refl;
-      tickets = refl;
-      cells = refl;
-      device = refl;
-      rows = refl;
-      accesses = refl;
-      size = refl;
-      later = refl;
-    }
+pub kept_start : {store : List ℕ} → Kept store store
+kept_start = record { size = refl; later = refl }
 
-pub kept_more : {m₀ m n : Memory} {store₀ store then : List ℕ} → Kept m₀ store₀ m store → Kept m store n then → Kept m₀ store₀ n then
-kept_more k l =
-    record {
-      wait = l.wait ∙ k.wait;
-      registrations = l.registrations ∙ k.registrations;
-      tickets = l.tickets ∙ k.tickets;
-      cells = l.cells ∙ k.cells;
-      device = l.device ∙ k.device;
-      rows = l.rows ∙ k.rows;
-      accesses = l.accesses ∙ k.accesses;
-      size = l.size ∙ k.size;
-      later = l.later ∙ k.later;
-    }
+pub kept_more : {store₀ store then : List ℕ} → Kept store₀ store → Kept store then → Kept store₀ then
+kept_more k l = record { size = l.size ∙ k.size; later = l.later ∙ k.later }
 
-pub kept_long : {m₀ m : Memory} {store₀ store : List ℕ} → Kept m₀ store₀ m store → Long m₀ → Long m
-kept_long k l =
-    record {
-      wait = k.wait ∙ l.wait;
-      registrations = k.registrations ∙ l.registrations;
-      tickets = k.tickets ∙ l.tickets;
-      cells = k.cells ∙ l.cells;
-      device = k.device ∙ l.device;
-      tasks = record { rows = k.rows ∙ l.tasks.rows; accesses = k.accesses ∙ l.tasks.accesses };
-    }
-
-pub kept_room : {m₀ m : Memory} {store₀ store : List ℕ} → Kept m₀ store₀ m store → shares_size ≤ length store₀ → shares_size ≤ length store
+pub kept_room : {store₀ store : List ℕ} → Kept store₀ store → shares_size ≤ length store₀ → shares_size ≤ length store
 kept_room k l = omega (arith, k.size)
 
 -- ---- the picks of a line
@@ -84,7 +44,7 @@ pub record Reaches (c : Setup) (end : ℕ) (s₀ : State) (line₀ : Source) (m 
 
 -- whatever state was held before the line, one that it reaches is held now
 pub record Goes (end : ℕ) (m₀ : Memory) (store₀ : List ℕ) (line₀ : Source) (m : Memory) (store : List ℕ) (line : Source) : Type 0 where
-  pub kept : Kept m₀ store₀ m store
+  pub kept : Kept store₀ store
   pub reaches : (c : Setup) (s₀ : State) → Under c s₀ end line₀ → Holds c m₀ (share store₀) s₀ → Reaches c end s₀ line₀ m store line
 
 pub goes_start : {end : ℕ} {m : Memory} {store : List ℕ} {line : Source} → Goes end m store line m store line
@@ -121,7 +81,6 @@ module _ {end : ℕ} {m₀ : Memory} {store₀ : List ℕ} {line₀ : Source} {m
       let r = g.reaches a.c a.s a.under a.holds in
       record {
         room = kept_room g.kept a.room;
-        long = kept_long g.kept a.long;
         c = a.c;
         s = r.s;
         under = r.under;
@@ -141,7 +100,7 @@ module _ {end : ℕ} {m₀ : Memory} {store₀ : List ℕ} {line₀ : Source} {m
 
   -- one pick more
   pub goes_pick : m.counts.picks < end → ((c : Setup) (s : State) → Holds c m (share store) s → false ≡ finished c s)
-      → (drawn : Drawn) → Draws m.counts.workers line drawn → {n : Memory} {then : List ℕ} → Kept m store n then
+      → (drawn : Drawn) → Draws m.counts.workers line drawn → {n : Memory} {then : List ℕ} → Kept store then
       → Stepped m store drawn.worker n then → Goes end m₀ store₀ line₀ n then drawn.source
   goes_pick below goes_on_lem drawn d kept one =
       record {

@@ -1,7 +1,9 @@
 -- How long a run of an accepted plan can be: so far below 2^64 that no number of it wraps.
 use Rattle.std.specs.Prelude.{ℕ, suc, ◌*◌, ◌^◌, ◌≤◌, ◌<◌, ◌≡◌, List, [], ◌∷◌, length}
 use Rattle.std.proofs.Common.{arith, suc-mul, mul-le-mul, mul-le-mul_right, length-append, length-take}
-use Rattle.plan.specs.Plan.{Order, picks, rounds, seeded, Plan}
+use Rattle.plan.specs.Plan.{Plan}
+use Rattle.plan.specs.declared.order.Order.{Order}
+use Rattle.plan.specs.declared.order.Order.TheVariants.{Picks as picks, Rounds as rounds, Seeded as seeded}
 use Rattle.plan.specs.Reading.{accepted, reading}
 use Rattle.plan.specs.Orders.{picks_of, picks_of_all, picks_up_to}
 use Rattle.plan.specs.Accepted.{Each, OrderFormed}

@@ -2,7 +2,9 @@
 use Rattle.std.specs.Prelude.{ℕ, zero, suc, ◌+◌, ◌/◌, ◌^◌, ◌≤◌, ◌<◌, List, [], ◌∷◌, ◌++◌, replicate}
 use Rattle.std.proofs.Common.{mod-lt, arith}
 use Rattle.runs.specs.Picks.{Picks, picks_take}
-use Rattle.plan.specs.Plan.{Order, picks, rounds, seeded, Plan}
+use Rattle.plan.specs.Plan.{Plan}
+use Rattle.plan.specs.declared.order.Order.{Order}
+use Rattle.plan.specs.declared.order.Order.TheVariants.{Picks as picks, Rounds as rounds, Seeded as seeded}
 use Rattle.plan.specs.Orders.{numbers_from, times, next_state, seeded_picks, picks_of, picks_of_all, picks_up_to}
 use Rattle.plan.specs.Accepted.{Each, OrderFormed, WellFormed}
 

@@ -3,7 +3,9 @@ use Rattle.std.specs.Prelude.{ℕ, zero, suc, ◌+◌, ◌<◌, ◌≡◌, List,
 use Rattle.std.proofs.Common.{mod-eq_of_lt, arith}
 use Rattle.runs.specs.Picks.{pick}
 use Rattle.runs.specs.Apart.{InTurn, in_turn_take, in_turn_append}
-use Rattle.plan.specs.Plan.{Order, picks, rounds, seeded, Plan}
+use Rattle.plan.specs.Plan.{Plan}
+use Rattle.plan.specs.declared.order.Order.{Order}
+use Rattle.plan.specs.declared.order.Order.TheVariants.{Picks as picks, Rounds as rounds, Seeded as seeded}
 use Rattle.plan.specs.Orders.{numbers_from, times, picks_of_all, OnlyRounds, picks_up_to}
 use Rattle.picks.specs.LineLaws.{count_picks}
 use Rattle.tasks.proofs.Promise.{numbers_length}

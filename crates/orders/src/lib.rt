@@ -2,13 +2,14 @@
 
 #![tactic(auto)]
 
-ghost use Rattle.std.specs.Prelude.{◌≡◌, ◌+◌, ◌^◌, ◌≤◌, ◌<◌, min, drop};
+ghost use Rattle.std.specs.Prelude.{◌≡◌, drop};
 ghost use Rattle.steps.specs.Layout.{shares_size};
-ghost use Rattle.scheduler.specs.Lent.{memory};
+ghost use Rattle.scheduler.specs.Lent.{memory_of};
 ghost use Rattle.orders.specs.Played.{LineAble, LinePlayed, OrdersAble, OrdersPlayed};
 
-use kept::orders::order_at;
-use picks::{Source, count_of, draw, source_of};
+use picks::{Source, count_of, draw};
+use plan::order::Order;
+use scheduler::arrays::Arrays;
 use scheduler::{is_finished, pick};
 use steps::Counts;
 
@@ -17,109 +18,46 @@ fn play_line(
     source: Source,
     end: u64,
     begin: Counts,
-    wait: &mut [u64],
-    registrations: &mut [u64],
-    tickets: &mut [u64],
-    cells: &mut [u64],
-    device: &mut [u64],
-    rows: &mut [u64],
-    accesses: &mut [u64],
+    arrays: &mut Arrays,
     store: &mut [u64],
 ) -> Counts
-    requires { LineAble end source
-        (memory begin wait.old registrations.old tickets.old cells.old device.old rows.old accesses.old) store.old }
-    ensures held { LinePlayed end source
-        (memory begin wait.old registrations.old tickets.old cells.old
-        device.old rows.old accesses.old) store.old
-        (memory result wait.new registrations.new tickets.new cells.new
-        device.new rows.new accesses.new) store.new }
+    requires { LineAble end source (memory_of begin arrays.old) store.old }
+    ensures held { LinePlayed end source (memory_of begin arrays.old) store.old
+        (memory_of result arrays.new) store.new }
     ensures later { drop shares_size store.new ≡ drop shares_size store.old }
 {
     let mut n = begin;
     let mut line = source;
-    while n.picks < end {
-        if is_finished(n) {
-            return n;
-        }
+    // no `for`: each pick counts itself, and may be the last
+    while n.picks < end && !is_finished(n) {
         let drawn = draw(line, n.workers);
         line = drawn.source;
-        n = pick(
-            n,
-            wait,
-            registrations,
-            tickets,
-            cells,
-            device,
-            rows,
-            accesses,
-            store,
-            drawn.worker as usize,
-        );
+        n = pick(n, arrays, store, drawn.worker as usize);
     }
     n
 }
 
-// The picks taken after a line of so many, or the limit if that comes first.
-fn end_of(picks: u64, count: u64, limit: u64) -> u64
-    requires { (picks ≤ limit) × (picks + count < 2 ^ 64) }
-    ensures { result ≡ min (picks + count) limit }
-{
-    if limit - picks < count {
-        return limit;
-    }
-    picks + count
-}
-
-// Takes the picks of so many order lines that are kept.
+// Takes the picks of order lines, up to the limit.
 pub fn play_orders(
-    lines: &[u64],
-    orders: usize,
+    lines: &[Order],
     limit: u64,
     begin: Counts,
-    wait: &mut [u64],
-    registrations: &mut [u64],
-    tickets: &mut [u64],
-    cells: &mut [u64],
-    device: &mut [u64],
-    rows: &mut [u64],
-    accesses: &mut [u64],
+    arrays: &mut Arrays,
     store: &mut [u64],
 ) -> Counts
-    requires { OrdersAble lines.now orders
-        (memory begin wait.old registrations.old tickets.old cells.old device.old rows.old accesses.old) store.old }
-    ensures held { OrdersPlayed lines.now orders limit
-        (memory begin wait.old registrations.old tickets.old cells.old
-        device.old rows.old accesses.old) store.old
-        (memory result wait.new registrations.new tickets.new cells.new
-        device.new rows.new accesses.new) store.new }
+    requires { OrdersAble lines.now (memory_of begin arrays.old) store.old }
+    ensures held { OrdersPlayed lines.now limit (memory_of begin arrays.old) store.old
+        (memory_of result arrays.new) store.new }
     ensures later { drop shares_size store.new ≡ drop shares_size store.old }
 {
     let mut n = begin;
-    let mut i: usize = 0;
-    while i < orders {
-        let order = order_at(lines, i);
-        let source = source_of(order);
-        let count = count_of(order, n.workers);
-        n = play_line(
-            source,
-            end_of(n.picks, count, limit),
-            n,
-            wait,
-            registrations,
-            tickets,
-            cells,
-            device,
-            rows,
-            accesses,
-            store,
-        );
-        if limit == n.picks {
+    for order in lines {
+        let count = count_of(*order, n.workers);
+        let end = (n.picks + count).min(limit);
+        n = play_line(Source::from(*order), end, n, arrays, store);
+        if n.picks == limit || is_finished(n) {
             return n;
         }
-        if is_finished(n) {
-            return n;
-        }
-        i += 1;
     }
     n
 }

@@ -1,59 +1,33 @@
 -- What the readers of a plan's own fields answer.
-use Rattle.std.specs.Prelude.{ℕ, Bool, true, false, cond, List, length, ◌==◌}
+use Rattle.std.specs.Prelude as rust
+use Rattle.std.specs.Prelude.{ℕ, Bool, true, false, cond, ◌==◌, List, length, Result}
 use Rattle.std.proofs.Math.Option.{Option, none, some}
-use Rattle.plan.specs.declared.field.Label.{Label}
-use Rattle.plan.specs.declared.field.Label.TheVariants as labels
-use Rattle.plan.specs.declared.field.Access.{Access}
-use Rattle.plan.specs.declared.field.Access.TheVariants as accesses
-use Rattle.text.specs.declared.read.Number.{Number}
-use Rattle.text.specs.declared.read.Number.TheVariants as numbers
-use Rattle.text.specs.Text.{tab, line_feed, within}
+use Rattle.text.specs.declared.read.Field.{Field}
+use Rattle.text.specs.declared.read.Malformed.{Malformed}
 use Rattle.text.specs.Fields.{Answers, clipped}
-use Rattle.plan.specs.Plan as plans
-use Rattle.plan.specs.Line.{is_label, access_of}
+use Rattle.plan.specs.Plan.{Access}
+use Rattle.plan.specs.Line.{'r', 'w', is_label_byte, is_label, access_of}
+
+-- a label's byte is seen
+abbrev pub is_label_seen : rust.Option ℕ → Bool
+is_label_seen rust.None = false
+is_label_seen (rust.Some b) = is_label_byte b
 
 -- the length of a label
 abbrev pub label_size : List ℕ → Option ℕ
 label_size x = cond (is_label x) (some (length x)) none
 
--- the answers for a label, and for none
-abbrev pub no_label : Bool → Label
-no_label true = labels.Malformed
-no_label false = labels.MalformedAtEnd
+abbrev pub ReadLabel : List ℕ → ℕ → Result (Field ℕ) Malformed → ℕ → Type 0
+ReadLabel = Answers (λ n. n) label_size
 
-abbrev pub ReadLabel : List ℕ → ℕ → Label → ℕ → Type 0
-ReadLabel = Answers labels.Is no_label label_size
+-- the letter before an address is seen: whether it writes
+abbrev pub writes_seen : rust.Option ℕ → rust.Option Bool
+writes_seen rust.None = rust.None
+writes_seen (rust.Some b) = cond (b == 'r') (rust.Some false) (cond (b == 'w') (rust.Some true) rust.None)
 
--- 1 for true
-abbrev pub bit : Bool → ℕ
-bit true = 1
-bit false = 0
+-- an access whose address is held in 64 bits
+abbrev pub held_access : Access → Access
+held_access a = record { writes = a.writes; address = clipped a.address }
 
--- the answers for an access, and for none
-abbrev pub as_access : plans.Access → ℕ → Bool → Access
-as_access a next more = accesses.Is (bit a.writes) (clipped a.address) next more
-
-abbrev pub no_access : Bool → Access
-no_access true = accesses.Malformed
-no_access false = accesses.MalformedAtEnd
-
-abbrev pub ReadAccess : List ℕ → ℕ → Access → ℕ → Type 0
-ReadAccess = Answers as_access no_access access_of
-
--- ---- parts of the readers
-
--- a label of a wrong length, which this byte shows
-abbrev pub malformed_label : ℕ → Label
-malformed_label end = cond (end == line_feed) labels.MalformedAtEnd labels.Malformed
-
--- the end of a label's field, at this byte
-abbrev pub end_label : ℕ → ℕ → ℕ → Label
-end_label len end next =
-    cond (within 1 16 len)
-    (cond (end == tab) (labels.Is len next true) (cond (end == line_feed) (labels.Is len next false) labels.Malformed))
-    (malformed_label end)
-
-abbrev pub addressed : ℕ → Number → Access
-addressed writes numbers.Malformed = accesses.Malformed
-addressed writes numbers.MalformedAtEnd = accesses.MalformedAtEnd
-addressed writes (numbers.Is value fits next more) = accesses.Is writes value next more
+abbrev pub ReadAccess : List ℕ → ℕ → Result (Field Access) Malformed → ℕ → Type 0
+ReadAccess = Answers held_access access_of

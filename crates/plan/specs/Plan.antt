@@ -1,13 +1,11 @@
 -- What a plan says.
-use Rattle.std.specs.Prelude.{ℕ, Bool, List, [], ◌∷◌, ◌++◌}
+use Rattle.std.specs.Prelude.{ℕ, List, [], ◌∷◌, ◌++◌}
 use Rattle.std.proofs.Math.Option.{Option, some}
+pub use Rattle.plan.specs.declared.access.Access.{Access}
+pub use Rattle.plan.specs.declared.order.Order.{Order}
+pub use Rattle.plan.specs.declared.order.Order.TheVariants.{Picks as picks, Rounds as rounds, Seeded as seeded}
 use Rattle.plan.specs.declared.form.Form.{Form}
 use Rattle.plan.specs.declared.form.Form.TheVariants.{First, Second}
-
--- one access to an address: it writes, or else it reads
-pub record Access : Type 0 where
-  pub writes : Bool
-  pub address : ℕ
 
 pub record Task : Type 0 where
   pub label : List ℕ
@@ -15,12 +13,6 @@ pub record Task : Type 0 where
   pub accesses : List Access
   -- the number of its M line, if it has one: bit i for worker i
   pub mask : Option ℕ
-
--- an order line: a worker so many times, so many rounds of all workers, or a seed and so many seeded picks
-pub data Order : Type 0 where
-  picks : ℕ → ℕ → Order
-  rounds : ℕ → Order
-  seeded : ℕ → ℕ → Order
 
 -- the slots of the ring and the capacity of each queue: the first form means 64 and 8, the second has both
 abbrev pub slots_of : Form → ℕ

@@ -3,6 +3,8 @@
 
 #![tactic(auto)]
 
+pub mod access; // access.rt: an access
 pub mod field; // field.rt: labels and accesses
 pub mod form; // form.rt: the form of a plan
+pub mod order; // order.rt: an order line
 pub mod seed; // seed.rt: seeded picks

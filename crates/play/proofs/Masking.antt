@@ -1,5 +1,5 @@
 -- The device's array of a run in which no pick has been taken: its masks are lent, and come back as the plan's.
-use Prim.Native.Nat.{ℕ, ◌+◌, ◌*◌, ◌-◌, ◌≤◌, ◌<◌}
+use Prim.Native.Nat.{ℕ, ◌+◌, ◌*◌, ◌≤◌, ◌<◌}
 use native.Mathlib.Omega.{arith}
 use mathlib.Core.Path.{◌≡◌, sym, ap, ◌∙◌}
 use mathlib.Core.List.{List, ◌++◌}
@@ -10,11 +10,11 @@ use Rattle.plan.specs.Plan.{Task}
 use Rattle.memory.specs.Layout as layout
 use Rattle.steps.specs.Layout.{GIVERS, MASKS, device_size}
 use Rattle.steps.specs.Memory.{Given, Masked}
-use Rattle.tables.specs.Tables.{mask_row_of, LaidRows}
+use Rattle.tables.specs.Tables.{task_mask, LaidRows}
 
 -- the array with what was lent from the masks on
 abbrev pub with_masks : List ℕ → List ℕ → List ℕ
-with_masks device masks = take MASKS device ++ (masks ++ drop (length device - MASKS) (drop MASKS device))
+with_masks device masks = take MASKS device ++ (masks ++ drop layout.most_tasks (drop MASKS device))
 
 module _ (device masks : List ℕ) (long : length device ≡ device_size) where
   front_long : length (take MASKS device) ≡ MASKS
@@ -26,7 +26,7 @@ module _ (device masks : List ℕ) (long : length device ≡ device_size) where
   in_masks : (i : ℕ) → i < length masks → get_or (with_masks device masks) (MASKS + i) 0 ≡ get_or masks i 0
   in_masks i l =
       ap (λ (n : ℕ). get_or (with_masks device masks) (n + i) 0) (sym front_long)
-      ∙ get_or-append-add (take MASKS device) (masks ++ drop (length device - MASKS) (drop MASKS device)) i 0
+      ∙ get_or-append-add (take MASKS device) (masks ++ drop layout.most_tasks (drop MASKS device)) i 0
       ∙ get_or-append masks _ 0 i l
 
   -- the givers stay
@@ -34,8 +34,7 @@ module _ (device masks : List ℕ) (long : length device ≡ device_size) where
   still_ungiven n few h i l = before_masks (GIVERS + i) (omega arith) ∙ h i (omega arith)
 
   -- the masks are those that were laid
-  pub laid_masks : (W : ℕ) (ts : List Task) (before : List ℕ) → length ts ≤ length masks → LaidRows 1 (length ts) (mask_row_of W ts) before masks
+  pub laid_masks : (W : ℕ) (ts : List Task) (before : List ℕ) → length ts ≤ length masks → LaidRows 0 (length ts) (task_mask W ts) before masks
       → Masked W ts (with_masks device masks)
   laid_masks W ts before few h i l =
-      let at : 1 * i + 0 ≡ i = omega arith in
-      in_masks i (omega arith) ∙ ap (λ (k : ℕ). get_or masks k 0) (sym at) ∙ h.rows 0 (omega arith) i l
+      in_masks i (omega arith) ∙ h.rows i l

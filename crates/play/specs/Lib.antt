@@ -1,5 +1,5 @@
 pub mod Outcome
 pub mod Loaded
 pub mod Written
-pub mod Lent
 pub mod Short
+pub mod Summed

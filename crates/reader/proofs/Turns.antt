@@ -1,63 +1,63 @@
 -- The turns of the reader's two loops: what a text comes to from a line on, and what is read of the line in hand.
-use Prim.Native.Nat.{ℕ, suc, ◌+◌, ◌-◌, ◌≤◌, ◌<◌}
-use mathlib.Core.Path.{◌≡◌, refl, sym, ap, ◌∙◌, subst}
-use mathlib.Core.Bool.{Bool, true, false, cond, not, and-false}
-use mathlib.Core.List.{List, [], ◌∷◌, ◌++◌, map, map-append}
-use mathlib.Core.Option.{Option, none, some}
-use native.Mathlib.Omega.{arith}
-use native.Mathlib.Numerals.{add-one}
-use lib.ListN.{length, drop, length-append, length-drop, drop_of_length-le}
-use borrow.Author.Tests.{lt-ltb, eq-eqb, ne_eqb}
+use Rattle.std.specs.Prelude.{Result, Ok, Err, ℕ, suc, ◌+◌, ◌-◌, ◌≤◌, ◌<◌, ◌≡◌, refl, Bool, true, false, cond, not, List, [], ◌∷◌, ◌++◌, map, length, drop}
+use Rattle.std.proofs.Common.{sym, ap, ◌∙◌, subst, arith, add-one, length-append, length-drop, lt-ltb}
+use Rattle.std.proofs.Math.Bool.{and-false}
+use Rattle.std.proofs.Math.Option.{Option, none, some}
+use Rattle.std.proofs.Math.ListN.{drop_of_length-le}
+use mathlib.Core.List.{map-append}
 use Rattle.refusals.specs.declared.Refusal.{Refusal}
-use Rattle.refusals.specs.declared.Refusal.TheVariants.{Malformed, Misplaced, TextTooLong}
+use Rattle.refusals.specs.declared.Refusal.TheVariants.{Malformed as malformed_text, TextTooLong}
 use Rattle.runs.specs.Update.{clash}
 use Rattle.runs.specs.Stores.{drop_from}
+use Rattle.text.specs.declared.read.Field.{Field}
+use Rattle.text.specs.declared.read.Malformed.{Malformed}
 use Rattle.text.specs.Text.{line_feed, split, all_of, number_of}
 use Rattle.text.specs.LineEnds.{lines_size, line_end, Reaches}
 use Rattle.text.proofs.LineEnds.{reaches_on, end_past, lines_more}
-use Rattle.text.specs.Fields.{cut, field_of, said, unsaid, First, unended, first, first_line, Fields, clipped}
+use Rattle.text.specs.Fields.{cut, field_of, said, unsaid, First, unended, first, first_line, Fields}
 use Rattle.text.proofs.FieldLaws.{some_part, field_length, fields_more, fields_reach, line_parts, line_unended}
-use Rattle.plan.specs.declared.field.Access as fields
-use Rattle.plan.specs.declared.field.Access.TheVariants as accesses
 use Rattle.plan.specs.declared.form.Form.{Form}
-use Rattle.plan.specs.Plan.{Access, Task, Order, Plan, empty_plan, with_workers, with_task, mask_last, with_mask, with_order}
+use Rattle.plan.specs.Plan.{Task, Plan, empty_plan, with_workers, with_task, mask_last, with_mask, with_order}
+use Rattle.plan.specs.declared.access.Access.{Access}
+use Rattle.plan.specs.declared.order.Order.{Order}
 use Rattle.plan.specs.Permits.{is_masked}
 use Rattle.plan.specs.Line as plans
-use Rattle.plan.specs.Line.{'T', access, access_of, at_start, has_orders, ends_unmasked, after_task, is_label, with_cost}
+use Rattle.plan.specs.Line.{'T', access_of, at_start, has_orders, ends_unmasked, after_task, is_label, with_cost}
 use Rattle.plan.specs.Line.{line_by, line_of_fields, task_line}
 use Rattle.plan.specs.Reading.{Reading, accepted, refused, first_refusal, read_line, read_lines, reading}
 use Rattle.plan.proofs.Accepted.{mask_length}
 use Rattle.plan.specs.Lengths.{reading_long, reading_short}
-use Rattle.plan.specs.PassFields.{bit, no_access, ReadAccess}
+use Rattle.plan.specs.PassFields.{held_access, ReadAccess}
 use Rattle.kept.specs.Layout as layout
-use Rattle.kept.specs.Tasks.{Placed, row_of, rows_of, Labelled, KeepsTasks}
+use Rattle.kept.specs.declared.tasks.Row.{Row}
+use Rattle.kept.specs.Tasks.{Placed, row_of, Labelled, KeepsTasks}
 use Rattle.kept.specs.TaskLaws.{no_tasks, task_kept, mask_kept}
-use Rattle.kept.specs.Orders.{code_of, seed_of, order_numbers, KeepsOrders}
+use Rattle.kept.specs.Orders.{KeepsOrders}
 use Rattle.kept.specs.OrderLaws.{no_orders_lem, order_kept}
 use Rattle.lines.specs.declared.accesses.Accesses.{Accesses}
-use Rattle.lines.specs.declared.line.Fault.TheVariants.{Nothing, Is}
 use Rattle.lines.specs.declared.line.Kind.{Kind}
 use Rattle.lines.specs.declared.line.Kind.TheVariants as kinds
 use Rattle.lines.specs.declared.line.Line.{Line}
 use Rattle.lines.specs.declared.line.Sofar.{Sofar}
 use Rattle.lines.specs.Accesses.{with_accesses, Reads}
-use Rattle.lines.specs.Lines.{Sums, fault_of, fault_in, is_wrong, Formless, Makes, IsWhole, Formed, malformed, formed}
-use Rattle.lines.specs.Lines.{task_of, bare, head_fault, LineAt, whole, task}
-use Rattle.lines.specs.Judging.{fault_by, judged}
-use Rattle.reader.specs.Keeping.{Keeps}
-use Rattle.reader.specs.declared.Checked.TheVariants.{Accepted}
-use Rattle.reader.specs.declared.ReadPlan.{ReadPlan}
-use Rattle.reader.specs.Verdict.{no_plan, outlined, Lent, Gives}
+use Rattle.lines.specs.Lines.{Sums, judged_by, judges, Formless, Makes, IsWhole, Formed, malformed, formed}
+use Rattle.lines.specs.Lines.{task_of, bare, judges_head, LineAt, whole, task}
+use Rattle.lines.specs.Judging.{judged_after, judged}
 use Rattle.lines.proofs.Wholes.{formless_next}
-use Rattle.lines.proofs.Touches.{seen, task_fault_lem, task_place, task_room, task_few, task_row_lem}
+use Rattle.lines.proofs.Touches.{seen, task_judged_lem, task_place, task_room, task_few, task_row_lem}
+use Rattle.reader.specs.declared.Fault.{Fault}
+use Rattle.reader.specs.declared.ReadPlan.{ReadPlan}
+use Rattle.reader.specs.declared.ReadText.{ReadText}
+use Rattle.reader.specs.Keeping.{IsMask, Keeps}
+use Rattle.reader.specs.Verdict.{no_plan, plan_of, AtEnd, outlined, Lent, Gives}
 
 -- ---- a text from a line on, by that line
 
-refusal_is : (o : Option Refusal) (r : Refusal) → fault_of o ≡ Is r → o ≡ some r
+refusal_is : (o : Option Refusal) (r : Refusal) → judged_by o ≡ Err r → o ≡ some r
 refusal_is none r e = clash (cc)
 refusal_is (some f) r e = ap some (cc)
 
-refusal_none : (o : Option Refusal) → fault_of o ≡ Nothing → o ≡ none
+refusal_none : (o : Option Refusal) → judged_by o ≡ Ok tt → o ≡ none
 refusal_none none e = refl
 refusal_none (some f) e = clash (cc)
 
@@ -75,11 +75,11 @@ module _ (p : Plan) (n : ℕ) (text : List ℕ) (begin : ℕ) where
       rw (parts, on, fields)
 
   -- a line without end, or of no form
-  pub comes_formless : begin < length text → Formless (line_of_fields p) (first_line (drop begin text)) → comes ≡ refused Malformed n
+  pub comes_formless : begin < length text → Formless (line_of_fields p) (first_line (drop begin text)) → comes ≡ refused malformed_text n
   unfolding read_lines
   comes_formless h f = go (first_line (drop begin text)) refl f
     where
-      go : (l : First) → first_line (drop begin text) ≡ l → Formless (line_of_fields p) l → comes ≡ refused Malformed n
+      go : (l : First) → first_line (drop begin text) ≡ l → Formless (line_of_fields p) l → comes ≡ refused malformed_text n
       go unended e f = rw (line_unended (drop begin text) e, drop_from text begin 0 h)
       go (first fs rest) e f = comes_first fs rest e ∙ rw f
 
@@ -88,10 +88,10 @@ module _ (p : Plan) (n : ℕ) (text : List ℕ) (begin : ℕ) where
     comes_formed : comes ≡ read_line n (some l) (λ q. read_lines q (suc n) (split line_feed (drop next text)))
     comes_formed = comes_first fs (drop next text) so.line ∙ rw form
 
-    comes_refused : (r : Refusal) → fault_in l ≡ Is r → comes ≡ refused r n
+    comes_refused : (r : Refusal) → judges l ≡ Err r → comes ≡ refused r n
     comes_refused r e = comes_formed ∙ rw (refusal_is (first_refusal l.asks) r e, read_line)
 
-    comes_on : fault_in l ≡ Nothing → comes ≡ read_lines l.plan (n + 1) (split line_feed (drop next text))
+    comes_on : judges l ≡ Ok tt → comes ≡ read_lines l.plan (n + 1) (split line_feed (drop next text))
     comes_on e = comes_formed ∙ rw (add-one n, refusal_none (first_refusal l.asks) e, read_line)
 
     -- it has a field
@@ -106,7 +106,7 @@ module _ (p : Plan) (n : ℕ) (text : List ℕ) (begin : ℕ) where
 -- ---- the line in hand
 
 -- of the line that begins at a place these are read: a task's label, its cost and some accesses
-pub record TaskRead (text : List ℕ) (begin : ℕ) (p : Plan) (line : Line) (at : ℕ) (more : Bool) (a : Accesses) (row : List ℕ) : Type 0 where
+pub record TaskRead (text : List ℕ) (begin : ℕ) (p : Plan) (line : Line) (at : ℕ) (more : Bool) (a : Accesses) (row : Row) : Type 0 where
   pub label : List ℕ
   pub digits : List ℕ
   pub cost : ℕ
@@ -118,71 +118,54 @@ pub record TaskRead (text : List ℕ) (begin : ℕ) (p : Plan) (line : Line) (at
   pub fields : Fields text begin (('T' ∷ []) ∷ label ∷ digits ∷ fs) at more
   pub stands : Labelled text (bare (begin + 2) label cost)
   pub reads : Reads (bare (begin + 2) label cost) (seen xs) a row
-  pub judges : line.fault ≡ head_fault p cost
+  pub judges : line.judged ≡ judges_head p cost
   pub kind : line.kind ≡ kinds.Task
 
 -- the line in hand is read up to a place: whole, or a task's
-pub data InLine (text : List ℕ) (begin : ℕ) (p : Plan) (line : Line) (at : ℕ) (more : Bool) (a : Accesses) (row : List ℕ) : Type 0 where
-  other : Formed text begin p (line_of_fields p) line at → more ≡ false → InLine text begin p line at more a row
+pub data InLine (text : List ℕ) (begin : ℕ) (p : Plan) (line : Line) (at : ℕ) (more : Bool) (a : Accesses) (row : Row) : Type 0 where
+  other : Formed text begin p (line_of_fields p) (Ok line) at → more ≡ false → InLine text begin p line at more a row
   tasks : TaskRead text begin p line at more a row → InLine text begin p line at more a row
 
--- a line that is not of its form
-whole_right : (k : Kind) → IsWhole k → is_wrong k ≡ false
-whole_right kinds.Wrong w = absurd w
-whole_right (kinds.Workers form) w = refl
-whole_right kinds.Task w = absurd w
-whole_right kinds.Mask w = refl
-whole_right kinds.Order w = refl
+ok_same : {A E : Type 0} {x y : A} → ◌≡◌ {A = Result A E} (Ok x) (Ok y) → x ≡ y
+ok_same e = cc
 
-module _ {text : List ℕ} {begin : ℕ} {p : Plan} {line : Line} {row : List ℕ} {n : ℕ} where
-  -- what was looked at of it leads to a place in it
-  pub line_wrong : LineAt text begin p row line n → is_wrong line.kind ≡ true
-      → Formless (line_of_fields p) (first_line (drop begin text)) × Reaches text begin line.more n
-  line_wrong (whole (malformed more e f reach)) is = (f, rw e reach)
-  line_wrong (whole (formed f)) is = let no : false ≡ true = sym (whole_right line.kind f.whole) ∙ is in clash (cc)
-  line_wrong (task b fields) is = let no : false ≡ true = rw b.kind at is in clash (cc)
+module _ {text : List ℕ} {begin : ℕ} {p : Plan} {row : Row} {n : ℕ} where
+  -- what was looked at of a line that is not of its form leads to a place in it
+  pub line_wrong : {m : Malformed} → LineAt text begin p row (Err m) n
+      → Formless (line_of_fields p) (first_line (drop begin text)) × Reaches text begin m.goes_on n
+  line_wrong {m} (whole (malformed more e f reach)) = let is : m.goes_on ≡ more = cc in (f, rw is reach)
+  line_wrong (whole (formed f)) = let no = f.is in clash (cc)
+  line_wrong (task b fields) = let no = b.is in clash (cc)
 
-  -- and of any other to the place after what is read of it
-  pub line_place : LineAt text begin p row line n → is_wrong line.kind ≡ false → line.next ≡ n
-  line_place (whole (malformed more e f reach)) right = let no : true ≡ false = rw e at right in clash (cc)
-  line_place (whole (formed f)) right = f.after
-  line_place (task b fields) right = b.after
-
--- none of its accesses is read yet
-line_begins : {text : List ℕ} {begin : ℕ} {p : Plan} {line : Line} {a : Accesses} {row : List ℕ} {n : ℕ} → LineAt text begin p row line n
-    → is_wrong line.kind ≡ false → ((t : Placed) → Reads t [] a (row_of (with_accesses t [])))
-    → InLine text begin p line n line.more a row
-unfolding all_of
-line_begins (whole (malformed more e f reach)) right start = let no : true ≡ false = rw e at right in clash (cc)
-line_begins (whole (formed f)) right start = other f f.ended
-line_begins {begin = begin} (task b fields) right start =
-    tasks
-    (record {
-      label = b.label;
-      digits = b.digits;
-      cost = b.cost;
-      fs = [];
-      xs = [];
-      labelled = b.labelled;
-      number = b.number;
-      each = refl;
-      fields = fields;
-      stands = b.stands;
-      reads = rw b.kept (start (bare (begin + 2) b.label b.cost));
-      judges = b.judged;
-      kind = b.kind;
-    })
+  -- none of the accesses of any other is read yet
+  line_begins : {line : Line} {a : Accesses} → LineAt text begin p row (Ok line) n
+      → ((t : Placed) → Reads t [] a (row_of (with_accesses t []))) → InLine text begin p line n line.more a row
+  unfolding all_of
+  line_begins (whole (malformed more e f reach)) start = clash (cc)
+  line_begins (whole (formed f)) start = other f (rw (ok_same f.is) f.ended)
+  line_begins (task b fields) start =
+      let is = ok_same b.is in
+      tasks
+      (record {
+        label = b.label;
+        digits = b.digits;
+        cost = b.cost;
+        fs = [];
+        xs = [];
+        labelled = b.labelled;
+        number = b.number;
+        each = refl;
+        fields = rw is fields;
+        stands = b.stands;
+        reads = rw b.kept (start (bare (begin + 2) b.label b.cost));
+        judges = rw is b.judged;
+        kind = rw is b.kind;
+      })
 
 -- whether more is to come, as a test found it
-pub found : {text : List ℕ} {begin : ℕ} {p : Plan} {line : Line} {at : ℕ} {more m : Bool} {a : Accesses} {row : List ℕ}
+pub found : {text : List ℕ} {begin : ℕ} {p : Plan} {line : Line} {at : ℕ} {more m : Bool} {a : Accesses} {row : Row}
     → InLine text begin p line at more a row → more ≡ m → InLine text begin p line at m a row
 found l e = rw e at l
-
--- it is in the text
-pub line_inside : {text : List ℕ} {begin : ℕ} {p : Plan} {line : Line} {at : ℕ} {more : Bool} {a : Accesses} {row : List ℕ}
-    → InLine text begin p line at more a row → at ≤ length text
-line_inside (other f m) = f.fields.within
-line_inside (tasks t) = t.fields.within
 
 -- ---- one access more
 
@@ -205,25 +188,13 @@ all_none [] ps = refl
 all_none (none ∷ os) ps = refl
 all_none (some x ∷ os) ps = rw (all_none os ps)
 
-no_access_lem : {A : Type 0} {writes address next : ℕ} {m : Bool} (more : Bool) → accesses.Is writes address next m ≡ no_access more → A
-no_access_lem true e = clash (cc)
-no_access_lem false e = clash (cc)
-
--- the place after an access
-pub access_next : {text : List ℕ} {at : ℕ} → at ≤ length text → {x : fields.Access} {n : ℕ} → ReadAccess text at x n
-    → {writes address next : ℕ} {more : Bool} → x ≡ accesses.Is writes address next more → (at < next) × (next ≤ length text) × (n ≡ next)
-access_next h (unsaid y u reach i) is = no_access_lem y (sym is ∙ i)
-access_next {text} {at} h {x} {n} (said y b m rest e s q i) {writes} {address} {next} is =
-    let ends : n ≡ next = cc in
-    (omega arith, omega (arith, field_length (drop at text) y m rest e, length-drop at text), ends)
-
 -- a task's line, by its accesses
 task_form : (p : Plan) (label digits : List ℕ) (cost : ℕ) → is_label label ≡ true → number_of digits ≡ some cost → (gs : List (List ℕ))
     → line_of_fields p (('T' ∷ []) ∷ label ∷ digits ∷ gs) ≡ with_cost (task_line p) label (some cost) (all_of (map access_of gs))
 unfolding line_of_fields line_by
 task_form p label digits cost l n gs = rw (l, n)
 
-module _ {text : List ℕ} {begin : ℕ} {p : Plan} {line : Line} {at : ℕ} {a : Accesses} {row : List ℕ} where
+module _ {text : List ℕ} {begin : ℕ} {p : Plan} {line : Line} {at : ℕ} {a : Accesses} {row : Row} where
   -- where more is to come, the line is a task's
   is_task : InLine text begin p line at true a row → TaskRead text begin p line at true a row
   is_task (other w more) = clash (cc)
@@ -238,16 +209,13 @@ module _ {text : List ℕ} {begin : ℕ} {p : Plan} {line : Line} {at : ℕ} {a 
         → Fields text begin (('T' ∷ []) ∷ t.label ∷ t.digits ∷ (t.fs ++ x ∷ [])) (at + (length x + 1)) more
     more_fields = fields_more t.fields
 
-    pub access_read : {r : fields.Access} {n : ℕ} → ReadAccess text at r n
-        → {writes address next : ℕ} {more : Bool} {b : Accesses} {after : List ℕ} → r ≡ accesses.Is writes address next more
-        → ((u : Placed) (ys : List Access) (w : Bool) → writes ≡ bit w → Reads u ys a row → Reads u (ys ++ access w address ∷ []) b after)
-        → InLine text begin p line next more b after
-    access_read (unsaid m u reach i) is with_access_lem = no_access_lem m (sym is ∙ i)
-    access_read (said x y m rest e s q i) {writes} {address} {next} {more} is with_access_lem =
-        let ends : next ≡ at + (length x + 1) = cc in
-        let same : more ≡ m = cc in
-        let bits : writes ≡ bit y.writes = cc in
-        let clip : address ≡ clipped y.address = cc in
+    pub access_read : {field : Field Access} {n : ℕ} → ReadAccess text at (Ok field) n → {b : Accesses} {after : Row}
+        → ((u : Placed) (ys : List Access) → Reads u ys a row → Reads u (ys ++ field.value ∷ []) b after)
+        → InLine text begin p line n field.more b after
+    access_read (unsaid m u reach i) with_access_lem = clash (cc)
+    access_read {field} (said x y m rest e s q i) with_access_lem =
+        let value : field.value ≡ held_access y = cc in
+        let same : field.more ≡ m = cc in
         tasks
         (record {
           label = t.label;
@@ -258,32 +226,26 @@ module _ {text : List ℕ} {begin : ℕ} {p : Plan} {line : Line} {at : ℕ} {a 
           labelled = t.labelled;
           number = t.number;
           each = rw (map-append access_of t.fs (x ∷ []), s) (all_more (map access_of t.fs) t.xs y t.each);
-          fields = rw (ends, same) (more_fields x m rest e);
+          fields = rw (q, same) (more_fields x m rest e);
           stands = t.stands;
           reads =
-              rw (map-append (λ (a : Access). access a.writes (clipped a.address)) t.xs (y ∷ []), ← clip)
-              (with_access_lem (bare (begin + 2) t.label t.cost) (seen t.xs) y.writes bits t.reads);
+              rw (map-append held_access t.xs (y ∷ []), ← value)
+              (with_access_lem (bare (begin + 2) t.label t.cost) (seen t.xs) t.reads);
           judges = t.judges;
           kind = t.kind;
         })
 
     -- a field that is no access, and is left where the line goes on or has ended
-    pub access_wrong : {r : fields.Access} {n : ℕ} → ReadAccess text at r n → (more : Bool) → r ≡ no_access more
-        → Formless (line_of_fields p) (first_line (drop begin text)) × Reaches text begin more n
-    access_wrong (said x y m rest e s q i) more is = no_access_lem more (sym i ∙ is)
-    access_wrong (unsaid m u reach i) more is =
-        let left = rw (same m more (sym i ∙ is)) at reach in (
+    pub access_wrong : {m : Malformed} {n : ℕ} → ReadAccess text at (Err m) n
+        → Formless (line_of_fields p) (first_line (drop begin text)) × Reaches text begin m.goes_on n
+    access_wrong (said x y more rest e s q i) = clash (cc)
+    access_wrong {m} (unsaid more u reach i) =
+        let same : m.goes_on ≡ more = cc in (
           formless_next (line_of_fields p) text begin t.fields
               (λ x m rest q gs. task_form p t.label t.digits t.cost t.labelled t.number (t.fs ++ x ∷ gs)
               ∙ rw (map-append access_of t.fs (x ∷ gs), rw q at u) (rw (all_none (map access_of t.fs) (map access_of gs)))),
-          reaches_on (fields_reach true t.fields) left,
+          reaches_on (fields_reach true t.fields) (rw same reach),
         )
-      where
-        same : (m more : Bool) → no_access m ≡ no_access more → m ≡ more
-        same true true e = refl
-        same true false e = clash (cc)
-        same false true e = clash (cc)
-        same false false e = refl
 
 -- ---- whether the line before is a task's
 
@@ -312,50 +274,50 @@ after_order p o = rw (lt-ltb 0 (length (p.orders ++ o ∷ [])) (omega (arith, le
 -- ---- a line that has ended
 
 -- what is kept of a line without fault makes q of p
-data Adds (text : List ℕ) (line : Line) (row : List ℕ) (p q : Plan) : Type 0 where
-  adds_workers : (form : Form) → line.kind ≡ kinds.Workers form → line.first ≤ 32 → q ≡ with_workers p line.first form
+data Adds (text : List ℕ) (line : Line) (row : Row) (p q : Plan) : Type 0 where
+  adds_workers : (workers : ℕ) (form : Form) → line.kind ≡ kinds.Workers workers form → workers ≤ 32 → q ≡ with_workers p workers form
       → Adds text line row p q
   adds_task : line.kind ≡ kinds.Task → (t : Placed) → Labelled text t → length t.task.accesses ≤ layout.most_task_accesses
       → row ≡ row_of t → length p.tasks < layout.most_tasks → after_task (with_task p t.task) ≡ true → q ≡ with_task p t.task
       → Adds text line row p q
-  adds_mask : line.kind ≡ kinds.Mask → 0 < length p.tasks → q ≡ with_mask p line.first → Adds text line row p q
-  adds_order : line.kind ≡ kinds.Order → (o : Order) → code_of o ≡ line.first → seed_of o ≡ line.second → q ≡ with_order p o
-      → Adds text line row p q
+  adds_mask : (m : ℕ) → line.kind ≡ kinds.Mask m → 0 < length p.tasks → q ≡ with_mask p m → Adds text line row p q
+  adds_order : (o : Order) → line.kind ≡ kinds.Order o → q ≡ with_order p o → Adds text line row p q
 
 -- a line that is of its form
-record Right (text : List ℕ) (begin : ℕ) (p : Plan) (line : Line) (at : ℕ) (a : Accesses) (row : List ℕ) : Type 0 where
+record Right (text : List ℕ) (begin : ℕ) (p : Plan) (line : Line) (at : ℕ) (a : Accesses) (row : Row) : Type 0 where
   pub l : plans.Line
   pub fs : List (List ℕ)
   pub form : line_of_fields p fs ≡ some l
   pub fields : Fields text begin fs at false
-  pub judges : judged line a (length p.tasks) ≡ fault_in l
+  pub judges : judged line a (length p.tasks) ≡ judges l
   pub adds : first_refusal l.asks ≡ none → Adds text line row p l.plan
 
-module _ {text : List ℕ} {begin : ℕ} {p : Plan} {line : Line} {at : ℕ} {a : Accesses} {row : List ℕ} where
-  formed_ended : Formed text begin p (line_of_fields p) line at → Right text begin p line at a row
+-- only a task's accesses are judged
+whole_judged : (j : Result (Unit {0}) Refusal) (k : Kind) → IsWhole k → (a : Accesses) (n : ℕ) → judged_after j k a n ≡ j
+whole_judged (Err r) k w a n = refl
+whole_judged (Ok x) (kinds.Workers workers form) w a n = refl
+whole_judged (Ok x) kinds.Task w a n = absurd w
+whole_judged (Ok x) (kinds.Mask m) w a n = refl
+whole_judged (Ok x) (kinds.Order o) w a n = refl
+
+module _ {text : List ℕ} {begin : ℕ} {p : Plan} {line : Line} {at : ℕ} {a : Accesses} {row : Row} where
+  formed_ended : Formed text begin p (line_of_fields p) (Ok line) at → Right text begin p line at a row
   formed_ended f =
+      let is = ok_same f.is in
       record {
         l = f.l;
         fs = f.fs;
         form = f.formed;
         fields = f.fields;
-        judges = fault_same line.kind f.whole ∙ f.judged;
-        adds = λ good. adds_as line.kind refl (f.makes good);
+        judges = rw is (whole_judged f.line.judged f.line.kind f.whole a (length p.tasks) ∙ f.judged);
+        adds = λ good. rw is (adds_as f.line.kind refl (f.makes good));
       }
     where
-      fault_same : (k : Kind) → IsWhole k → fault_by k line.fault a (length p.tasks) ≡ line.fault
-      fault_same kinds.Wrong w = absurd w
-      fault_same (kinds.Workers form) w = refl
-      fault_same kinds.Task w = absurd w
-      fault_same kinds.Mask w = refl
-      fault_same kinds.Order w = refl
-
-      adds_as : (k : Kind) → line.kind ≡ k → Makes k line.first line.second p f.l.plan → Adds text line row p f.l.plan
-      adds_as kinds.Wrong e m = absurd m
-      adds_as (kinds.Workers form) e (q, low) = adds_workers form e low q
+      adds_as : (k : Kind) → f.line.kind ≡ k → Makes k p f.l.plan → Adds text f.line row p f.l.plan
+      adds_as (kinds.Workers workers form) e (q, low) = adds_workers workers form e low q
       adds_as kinds.Task e m = absurd m
-      adds_as kinds.Mask e (q, before) = adds_mask e before q
-      adds_as kinds.Order e (o, q, code, seed) = adds_order e o code seed q
+      adds_as (kinds.Mask m) e (q, before) = adds_mask m e before q
+      adds_as (kinds.Order o) e q = adds_order o e q
 
   task_ended : TaskRead text begin p line at false a row → Right text begin p line at a row
   task_ended t =
@@ -364,7 +326,7 @@ module _ {text : List ℕ} {begin : ℕ} {p : Plan} {line : Line} {at : ℕ} {a 
         fs = ('T' ∷ []) ∷ t.label ∷ t.digits ∷ t.fs;
         form = task_form p t.label t.digits t.cost t.labelled t.number t.fs ∙ rw t.each;
         fields = t.fields;
-        judges = rw (t.kind, t.judges) (task_fault_lem p t.label t.cost t.xs t.reads);
+        judges = rw (t.kind, t.judges) (task_judged_lem p t.label t.cost t.xs t.reads);
         adds =
             λ good. adds_task t.kind
             (record { at = begin + 2; task = task_of t.label t.cost t.xs }) t.stands
@@ -387,11 +349,11 @@ module _ {text : List ℕ} {begin : ℕ} {p : Plan} {line : Line} {at : ℕ} {a 
     x = ended so
 
     -- a line with a fault
-    pub line_refused : (r : Refusal) → judged line a (length p.tasks) ≡ Is r → comes p n text begin ≡ refused r n
+    pub line_refused : (r : Refusal) → judged line a (length p.tasks) ≡ Err r → comes p n text begin ≡ refused r n
     line_refused r e = comes_refused p n text begin x.l x.fs at x.form x.fields r (sym x.judges ∙ e)
 
     -- a line without fault: the plan with it
-    line_passes : judged line a (length p.tasks) ≡ Nothing
+    line_passes : judged line a (length p.tasks) ≡ Ok tt
         → (q : Plan) × (begin < at) × (at ≤ length text) × (comes p n text begin ≡ comes q (n + 1) text at) × Adds text line row p q
     line_passes e = (
       x.l.plan,
@@ -424,51 +386,14 @@ pub record AtLine (text : List ℕ) (before : Lent) (s : Sofar) (n at : ℕ) (af
   pub lines : KeepsOrders before.lines p.orders after.lines
   pub so : comes p n text at ≡ read_lines empty_plan 1 (split line_feed text)
 
-pub text_begins : (text : List ℕ) (l : Lent) (s : Sofar) → Sums s empty_plan → AtLine text l s 1 0 l
-text_begins text l s h =
-    record {
-      p = empty_plan;
-      sums = h;
-      low = omega arith;
-      few = omega arith;
-      each = omega arith;
-      number = omega arith;
-      inside = omega arith;
-      ends = omega arith;
-      rows = no_tasks text l.rows;
-      lines = no_orders_lem l.lines;
-      so = refl;
-    }
-
 module _ {text : List ℕ} {before : Lent} {s : Sofar} {n begin : ℕ} {mid : Lent} (g : AtLine text before s n begin mid) where
   -- the line that begins here is in hand, where what is read of it goes on from its first fields
-  pub in_hand_lem : {line : Line} {start : Accesses} {first_row : List ℕ} {at : ℕ} {more : Bool} {a : Accesses} {row : List ℕ} {k : ℕ}
-      → ((p : Plan) → Sums s p → LineAt text begin p first_row line k) → is_wrong line.kind ≡ false
+  pub in_hand_lem : {line : Line} {start : Accesses} {first_row : Row} {k at : ℕ} {more : Bool} {a : Accesses} {row : Row}
+      → ((p : Plan) → Sums s p → LineAt text begin p first_row (Ok line) k)
       → ((t : Placed) → Reads t [] start (row_of (with_accesses t [])))
-      → ((b : ℕ) (p : Plan) → InLine text b p line line.next line.more start first_row → InLine text b p line at more a row)
+      → ((b : ℕ) (p : Plan) → InLine text b p line k line.more start first_row → InLine text b p line at more a row)
       → InLine text begin g.p line at more a row
-  in_hand_lem {line} {start} {first_row} read right none_yet on =
-      let at = read g.p g.sums in
-      on begin g.p (subst (λ (k : ℕ). InLine text begin g.p line k line.more start first_row) (sym (line_place at right))
-      (line_begins at right none_yet))
-
-  -- it is not of its form
-  pub not_formed : {line : Line} {first_row : List ℕ} {k : ℕ} → ((p : Plan) → Sums s p → LineAt text begin p first_row line k)
-      → is_wrong line.kind ≡ true → begin < length text
-      → (comes g.p n text begin ≡ refused Malformed n) × Reaches text begin line.more k
-  not_formed read is h =
-      let (formless, reach) = line_wrong (read g.p g.sums) is in (comes_formless g.p n text begin h formless, reach)
-
-  -- an M line without fault has a task before it
-  pub some_task : {line : Line} {at : ℕ} {a : Accesses} {row : List ℕ} → InLine text begin g.p line at false a row
-      → judged line a s.tasks ≡ Nothing → line.kind ≡ kinds.Mask → 1 ≤ s.tasks
-  some_task {line} {row = row} l e kind = by (line_passes n l (rw g.sums.tasks at e)).4
-    where
-      by : {q : Plan} → Adds text line row g.p q → 1 ≤ s.tasks
-      by (adds_workers form k low is) = clash (cc)
-      by (adds_task k t label few row_is room after is) = clash (cc)
-      by (adds_mask k before is) = omega (arith, g.sums.tasks)
-      by (adds_order k o code seed is) = clash (cc)
+  in_hand_lem read none_yet on = on begin g.p (line_begins (read g.p g.sums) none_yet)
 
   -- q is kept, with one line more
   record Grown (q : Plan) (r : Sofar) (after : Lent) : Type 0 where
@@ -479,9 +404,9 @@ module _ {text : List ℕ} {before : Lent} {s : Sofar} {n begin : ℕ} {mid : Le
     pub rows : KeepsTasks text before.rows q.tasks after.rows
     pub lines : KeepsOrders before.lines q.orders after.lines
 
-  module _ {line : Line} {row : List ℕ} {after : Lent} {r : Sofar} (k : Keeps s line row mid after r) where
+  module _ {line : Line} {row : Row} {after : Lent} {r : Sofar} (k : Keeps s line.kind row mid after r) where
     grown : {q : Plan} → Adds text line row g.p q → Grown q r after
-    grown (adds_workers form kind low is) =
+    grown (adds_workers workers form kind low is) =
         rw (is, rw kind at k.counts)
         (record {
           sums = record { workers = refl; form = refl; tasks = g.sums.tasks; orders = g.sums.orders; after = g.sums.after };
@@ -508,24 +433,24 @@ module _ {text : List ℕ} {before : Lent} {s : Sofar} {n begin : ℕ} {mid : Le
           rows = task_kept g.rows t label few (rw (kind, row_is, g.sums.tasks) at k.rows);
           lines = rw (rw kind at k.lines) g.lines;
         })
-    grown (adds_mask kind last is) =
+    grown (adds_mask m kind last is) =
         rw (is, rw kind at k.counts)
         (record {
           sums =
               record {
                 workers = g.sums.workers;
                 form = g.sums.form;
-                tasks = g.sums.tasks ∙ sym (mask_length line.first g.p.tasks);
+                tasks = g.sums.tasks ∙ sym (mask_length m g.p.tasks);
                 orders = g.sums.orders;
-                after = sym (after_mask g.p line.first);
+                after = sym (after_mask g.p m);
               };
           low = g.low;
-          few = omega (arith, mask_length line.first g.p.tasks, g.few);
+          few = omega (arith, mask_length m g.p.tasks, g.few);
           each = omega arith;
-          rows = mask_kept g.rows line.first (s.tasks - 1) (omega (arith, g.sums.tasks)) (rw kind at k.rows);
+          rows = mask_kept g.rows m (s.tasks - 1) (omega (arith, g.sums.tasks)) (rw kind at k.rows);
           lines = rw (rw kind at k.lines) g.lines;
         })
-    grown (adds_order kind o code seed is) =
+    grown (adds_order o kind is) =
         rw (is, rw kind at k.counts)
         (record {
           sums =
@@ -540,10 +465,10 @@ module _ {text : List ℕ} {before : Lent} {s : Sofar} {n begin : ℕ} {mid : Le
           few = g.few;
           each = omega (arith, length-append g.p.orders (o ∷ []));
           rows = rw (rw kind at k.rows) g.rows;
-          lines = order_kept g.lines o (rw (kind, ← code, ← seed, g.sums.orders) at k.lines);
+          lines = order_kept g.lines o (rw (kind, g.sums.orders) at k.lines);
         })
 
-    pub line_kept : {at : ℕ} {a : Accesses} → InLine text begin g.p line at false a row → judged line a s.tasks ≡ Nothing
+    pub line_kept : {at : ℕ} {a : Accesses} → InLine text begin g.p line at false a row → judged line a s.tasks ≡ Ok tt
         → (begin < at) × AtLine text before r (n + 1) at after
     line_kept {at} l e =
         let (q, forth, inside, on, adds) = line_passes n l (rw g.sums.tasks at e) in
@@ -566,62 +491,57 @@ module _ {text : List ℕ} {before : Lent} {s : Sofar} {n begin : ℕ} {mid : Le
 
 -- ---- the end of the text, or a refusal
 
-module _ {text : List ℕ} {before : Lent} {s : Sofar} {n at : ℕ} {after : Lent} (g : AtLine text before s n at after)
-    (short : length text ≤ 65536) where
-  reads_as : comes g.p n text at ≡ reading text
-  reads_as = g.so ∙ sym (reading_short text short)
+-- the lines end with a fault of the line that begins at a place, read up to another, where it goes on or has ended; or all is read
+abbrev pub Ends : Plan → ℕ → List ℕ → ℕ → Result ReadPlan Fault → ℕ → Type 0
+Ends p n text begin (Ok plan) at = (comes p n text begin ≡ accepted p) × (plan ≡ plan_of p) × (at ≡ length text)
+Ends p n text begin (Err f) at = (comes p n text begin ≡ refused f.refusal n) × Reaches text begin f.goes_on at
 
-  pub gives_refused : (f : Refusal) → comes g.p n text at ≡ refused f n → {looks : ℕ} → looks ≡ line_end text at
-      → {r : ReadPlan} → r ≡ no_plan f n looks → Gives text before after r (reading text)
-  gives_refused f e seen {r} q =
-      subst (Gives text before after r) (sym e ∙ reads_as)
-      (rw (seen ∙ sym g.ends) at q, (rows_of g.rows.placed, g.rows.stores), (order_numbers g.p.orders, g.lines.stores))
-
+module _ {text : List ℕ} {before : Lent} {s : Sofar} {n begin : ℕ} {after : Lent} (g : AtLine text before s n begin after) where
   -- all lines are read
-  module _ (end : length text ≤ at) where
-    comes_end : comes g.p n text at ≡ cond (at_start g.p) (refused Misplaced n) (accepted g.p)
-    unfolding read_lines split
-    comes_end = rw (drop_of_length-le text end)
+  pub ends_whole : length text ≤ begin → (found : Result ReadPlan Fault) → AtEnd g.p found → Ends g.p n text begin found begin
+  unfolding read_lines split
+  ends_whole end (Ok plan) (begun, is) = (rw (drop_of_length-le text end, begun), is, omega (arith, g.inside))
+  ends_whole end (Err f) (none_there, is) =
+      rw is (
+        rw (drop_of_length-le text end, none_there),
+        record { on = omega arith; within = g.inside; line = sym (end_past text begin end) },
+      )
 
-    pub gives_misplaced : s.workers ≡ 0 → {looks : ℕ} → looks ≡ at → {r : ReadPlan} → r ≡ no_plan Misplaced n looks
-        → Gives text before after r (reading text)
-    gives_misplaced z seen =
-        gives_refused Misplaced (comes_end ∙ rw (eq-eqb g.p.workers 0 (omega (arith, g.sums.workers))))
-        (seen ∙ sym (end_past text at end))
+  -- what was read leads out of the line, which is not of its form
+  pub ends_malformed : begin < length text → {m : Malformed} {f : Fault} → (f.refusal ≡ malformed_text) × (f.goes_on ≡ m.goes_on) → {at : ℕ}
+      → Formless (line_of_fields g.p) (first_line (drop begin text)) × Reaches text begin m.goes_on at
+      → Ends g.p n text begin (Err f) at
+  ends_malformed h (refusal, goes_on) (formless, reach) = rw (refusal, goes_on) (comes_formless g.p n text begin h formless, reach)
 
-    pub gives_accepted : (s.workers ≡ 0 → ⊥) → (looks : ℕ) → looks ≡ at
-        → Gives text before after
-        (record { checked = Accepted; looks = looks; workers = s.workers; form = s.form; tasks = s.tasks; orders = s.orders })
-        (reading text)
-    gives_accepted z looks seen =
-        let some_workers : comes g.p n text at ≡ accepted g.p =
-        comes_end ∙ rw (ne_eqb g.p.workers 0 (λ e. z (g.sums.workers ∙ e))) in
-        subst (Gives text before after _) (sym some_workers ∙ reads_as)
-        (record {
-          accepts = refl;
-          looks = omega (arith, seen, g.inside);
-          workers = g.sums.workers;
-          form = g.sums.form;
-          tasks = g.sums.tasks;
-          orders = g.sums.orders;
-          rows = g.rows;
-          lines = g.lines;
-        })
+  -- it has ended, and has a fault
+  pub ends_judged : {line : Line} {at : ℕ} {a : Accesses} {row : Row} → InLine text begin g.p line at false a row → {r : Refusal}
+      → judged line a s.tasks ≡ Err r → {f : Fault} → (f.refusal ≡ r) × (f.goes_on ≡ false) → Ends g.p n text begin (Err f) at
+  ends_judged so {r} e (refusal, goes_on) = rw (refusal, goes_on) (line_refused n so r (rw g.sums.tasks at e), ended_reach so)
+
+  module _ (short : length text ≤ 65536) where
+    as_reading : {y : Reading} (r : ReadText) → comes g.p n text begin ≡ y → Gives text before after r y → Gives text before after r (reading text)
+    as_reading r why = subst (Gives text before after r) (sym why ∙ g.so ∙ sym (reading_short text short))
+
+    pub gives_plan : {plan : ReadPlan} {at : ℕ} → Ends g.p n text begin (Ok plan) at
+        → Gives text before after (record { plan = Ok plan; looks = at }) (reading text)
+    gives_plan (why, is, all) = as_reading _ why (record { accepts = ap Ok is; looks = all; rows = g.rows; lines = g.lines })
+
+    -- the faulty line is looked at up to its end
+    pub gives_refused : {f : Fault} {at : ℕ} → Ends g.p n text begin (Err f) at → {looks : ℕ} → looks ≡ cond f.goes_on (line_end text at) at
+        → Gives text before after (no_plan f.refusal n looks) (reading text)
+    gives_refused {f} (why, reach) all =
+        as_reading _ why (
+          ap (no_plan f.refusal n) (all ∙ reach.line ∙ sym g.ends),
+          (map row_of g.rows.placed, g.rows.stores),
+          (g.p.orders, g.lines.stores),
+        )
 
 -- a text that is too long
-pub gives_too_long : (text : List ℕ) (l : Lent) {r : ReadPlan} → 65536 < length text → r ≡ no_plan TextTooLong 0 0
+pub gives_too_long : (text : List ℕ) (l : Lent) {r : ReadText} → 65536 < length text → r ≡ no_plan TextTooLong 0 0
     → Gives text l l r (reading text)
 unfolding lines_size
 gives_too_long text l h e = rw (reading_long text h) (e, ([], refl), ([], refl))
 
-pub gives_outlined : (text : List ℕ) (before after : Lent) (r : ReadPlan) (x : Reading) → Gives text before after r x → r ≡ outlined text x
-gives_outlined text before after r (accepted p) g =
-    λ i. record {
-      checked = g.accepts i;
-      looks = g.looks i;
-      workers = g.workers i;
-      form = g.form i;
-      tasks = g.tasks i;
-      orders = g.orders i;
-    }
+pub gives_outlined : (text : List ℕ) (before after : Lent) (r : ReadText) (x : Reading) → Gives text before after r x → r ≡ outlined text x
+gives_outlined text before after r (accepted p) g = λ i. record { plan = g.accepts i; looks = g.looks i }
 gives_outlined text before after r (refused f n) g = g.0

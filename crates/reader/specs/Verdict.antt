@@ -1,18 +1,22 @@
 -- What the public functions answer, by what a text comes to.
-use Rattle.std.specs.Prelude.{ℕ, ◌≡◌, refl, List, [], ◌∷◌, length}
+use Rattle.std.specs.Prelude.{Result, Ok, Err, ℕ, ◌≡◌, refl, true, false, List, [], ◌∷◌, length}
 use Rattle.std.proofs.lemmas.List.Edits.{sets}
 use Rattle.refusals.specs.declared.Refusal.{Refusal}
+use Rattle.refusals.specs.declared.Refused.{Refused}
+use Rattle.refusals.specs.declared.Refusal.TheVariants.{Misplaced}
 use Rattle.refusals.specs.Number.{number}
 use Rattle.text.specs.LineEnds.{lines_size}
-use Rattle.plan.specs.declared.form.Form.TheVariants.{First}
 use Rattle.plan.specs.Plan.{Plan}
+use Rattle.plan.specs.Line.{at_start}
 use Rattle.plan.specs.Reading.{Reading, accepted, refused, reading}
+use Rattle.plan.specs.declared.order.Order.{Order}
+use Rattle.kept.specs.declared.tasks.Row.{Row}
 use Rattle.kept.specs.Tasks.{KeepsTasks}
 use Rattle.kept.specs.Orders.{KeepsOrders}
-use Rattle.reader.specs.declared.Checked.{Checked}
-use Rattle.reader.specs.declared.Checked.TheVariants.{Accepted, Refused}
 use Rattle.reader.specs.declared.CheckedText.{CheckedText}
+use Rattle.reader.specs.declared.Fault.{Fault}
 use Rattle.reader.specs.declared.ReadPlan.{ReadPlan}
+use Rattle.reader.specs.declared.ReadText.{ReadText}
 
 -- how many bytes of a text are looked at, each once: all of them, or those of the lines up to the refused one (none with line 0, which
 -- has a refusal that is not the plan's)
@@ -20,11 +24,14 @@ abbrev pub looked : List ℕ → Reading → ℕ
 looked text (accepted p) = length text
 looked text (refused r line) = lines_size line text
 
-abbrev pub checked_as : Reading → Checked
-checked_as (accepted p) = Accepted
-checked_as (refused r line) = Refused r line
+abbrev pub refused_at : {A : Type 0} → Refusal → ℕ → Result A Refused
+refused_at r line = Err (record { refusal = r; line = line })
 
-abbrev pub checked_text : Checked → ℕ → CheckedText
+abbrev pub checked_as : Reading → Result (Unit {0}) Refused
+checked_as (accepted p) = Ok tt
+checked_as (refused r line) = refused_at r line
+
+abbrev pub checked_text : Result (Unit {0}) Refused → ℕ → CheckedText
 checked_text checked looks = record { checked = checked; looks = looks }
 
 -- the answer of the checking function
@@ -41,9 +48,9 @@ abbrev pub told_refusal : Refusal → ℕ → Told
 told_refusal r line = record { number = number r; values = line ∷ [] }
 
 -- that of a check, with the looks as its last value
-abbrev pub told_looks : Checked → ℕ → Told
-told_looks Accepted n = record { number = 0; values = n ∷ [] }
-told_looks (Refused r line) n = record { number = number r; values = line ∷ n ∷ [] }
+abbrev pub told_looks : Result (Unit {0}) Refused → ℕ → Told
+told_looks (Ok x) n = record { number = 0; values = n ∷ [] }
+told_looks (Err f) n = record { number = number f.refusal; values = f.line ∷ n ∷ [] }
 
 abbrev pub told : CheckedText → Told
 told r = told_looks r.checked r.looks
@@ -63,53 +70,54 @@ told_verdict text = by (reading text)
     by (accepted p) = refl
     by (refused r line) = refl
 
-abbrev pub no_plan : Refusal → ℕ → ℕ → ReadPlan
-no_plan refusal line looks =
-    record { checked = Refused refusal line; looks = looks; workers = 0; form = First; tasks = 0; orders = 0 }
+abbrev pub no_plan : Refusal → ℕ → ℕ → ReadText
+no_plan refusal line looks = record { plan = refused_at refusal line; looks = looks }
+
+-- of an accepted text
+abbrev pub plan_of : Plan → ReadPlan
+plan_of p = record { workers = p.workers; form = p.form; tasks = length p.tasks; orders = length p.orders }
+
+-- what the lines of a whole text come to
+abbrev pub AtEnd : Plan → Result ReadPlan Fault → Type 0
+AtEnd p (Ok plan) = (at_start p ≡ false) × (plan ≡ plan_of p)
+AtEnd p (Err f) = (at_start p ≡ true) × (f ≡ record { refusal = Misplaced; goes_on = false })
 
 -- what is answered of a text where nothing of its tasks and order lines is kept
-abbrev pub outlined : List ℕ → Reading → ReadPlan
-outlined text (accepted p) =
-    record {
-      checked = Accepted;
-      looks = looked text (accepted p);
-      workers = p.workers;
-      form = p.form;
-      tasks = length p.tasks;
-      orders = length p.orders;
-    }
+abbrev pub outlined : List ℕ → Reading → ReadText
+outlined text (accepted p) = record { plan = Ok (plan_of p); looks = looked text (accepted p) }
 outlined text (refused r line) = no_plan r line (looked text (refused r line))
 
+-- its verdict
+abbrev pub checked_plan : Result ReadPlan Refused → Result (Unit {0}) Refused
+checked_plan (Ok p) = Ok tt
+checked_plan (Err f) = Err f
+
 pub outlined_verdict : (text : List ℕ) (x : Reading)
-    → checked_text (outlined text x).checked (outlined text x).looks ≡ checked_text (checked_as x) (looked text x)
+    → checked_text (checked_plan (outlined text x).plan) (outlined text x).looks ≡ checked_text (checked_as x) (looked text x)
 outlined_verdict text (accepted p) = refl
 outlined_verdict text (refused r line) = refl
 
 -- what is lent for the rows of tasks and of order lines, before and after
 pub record Lent : Type 0 where
-  pub rows : List ℕ
-  pub lines : List ℕ
+  pub rows : List Row
+  pub lines : List Order
 
-abbrev pub lent : List ℕ → List ℕ → Lent
+abbrev pub lent : List Row → List Order → Lent
 lent rows lines = record { rows = rows; lines = lines }
 
 -- a plan as it was read from a text, and what is kept of it
-pub record Says (text : List ℕ) (before after : Lent) (r : ReadPlan) (p : Plan) : Type 0 where
-  pub accepts : r.checked ≡ Accepted
+pub record Says (text : List ℕ) (before after : Lent) (r : ReadText) (p : Plan) : Type 0 where
+  pub accepts : r.plan ≡ Ok (plan_of p)
   pub looks : r.looks ≡ looked text (accepted p)
-  pub workers : r.workers ≡ p.workers
-  pub form : r.form ≡ p.form
-  pub tasks : r.tasks ≡ length p.tasks
-  pub orders : r.orders ≡ length p.orders
   pub rows : KeepsTasks text before.rows p.tasks after.rows
   pub lines : KeepsOrders before.lines p.orders after.lines
 
--- some numbers were stored at the front; which ones is left to the program
-abbrev pub Front : List ℕ → List ℕ → Type 0
-Front before after = (ns : List ℕ) × (after ≡ sets before 0 ns)
+-- something was stored at the front; what is left to the program
+abbrev pub Front : {A : Type 0} → List A → List A → Type 0
+Front {A} before after = (xs : List A) × (after ≡ sets before 0 xs)
 
 -- the answer of the reading function, and what it leaves in the rows
-abbrev pub Gives : List ℕ → Lent → Lent → ReadPlan → Reading → Type 0
+abbrev pub Gives : List ℕ → Lent → Lent → ReadText → Reading → Type 0
 Gives text before after r (accepted p) = Says text before after r p
 Gives text before after r (refused f line) =
     (r ≡ no_plan f line (looked text (refused f line))) × Front before.rows after.rows × Front before.lines after.lines

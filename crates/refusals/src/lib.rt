@@ -5,13 +5,13 @@
 ghost use Rattle.std.specs.Prelude.{◌≡◌, ◌+◌, ◌^◌, ◌≤◌, ◌<◌};
 ghost use Rattle.refusals.specs.Number.{number};
 ghost use Rattle.refusals.specs.Line.{refusal_fields};
-ghost use Rattle.text.specs.Writing.{fields, Wrote};
+ghost use Rattle.text.specs.Writing.{fields};
+ghost use Rattle.text.specs.Writers.{Writes};
 
-use text::number::put_number;
-use text::write::put_field;
+use text::write::Writer;
 
 // Why a text, a store or an output is refused; `number` in specs/Number.antt gives the paper's number of each.
-#[derive(Clone, Copy)]
+#[derive(Clone, Copy, PartialEq, Eq)]
 pub enum Refusal {
     // a line without line feed, an unknown first field, a wrong number of fields, a field not of its form
     Malformed,
@@ -38,30 +38,42 @@ pub enum Refusal {
 }
 
 // The paper's number.
-pub fn number_of(refusal: Refusal) -> u64
-    ensures { result ≡ number refusal }
-{
-    match refusal {
-        Refusal::Malformed => 1,
-        Refusal::OutOfRange => 2,
-        Refusal::Misplaced => 3,
-        Refusal::TooMany => 4,
-        Refusal::AddressTwice => 5,
-        Refusal::TextTooLong => 6,
-        Refusal::StoreTooShort => 7,
-        Refusal::OutputTooShort => 8,
-        Refusal::TooFewSlots => 9,
-        Refusal::OtherSizes => 10,
-        Refusal::EmptyMask => 11,
+impl From<Refusal> for u64 {
+    ghost from_gives = { λ refusal n. n ≡ number refusal };
+
+    fn from(refusal: Refusal) -> u64 {
+        match refusal {
+            Refusal::Malformed => 1,
+            Refusal::OutOfRange => 2,
+            Refusal::Misplaced => 3,
+            Refusal::TooMany => 4,
+            Refusal::AddressTwice => 5,
+            Refusal::TextTooLong => 6,
+            Refusal::StoreTooShort => 7,
+            Refusal::OutputTooShort => 8,
+            Refusal::TooFewSlots => 9,
+            Refusal::OtherSizes => 10,
+            Refusal::EmptyMask => 11,
+        }
     }
 }
 
-// Writes the line that a program prints, as far as the array reaches; it has at most 26 bytes.
-pub fn put_refusal(refusal: Refusal, line: u64, out: &mut [u8], at: usize) -> usize
-    requires { at + 26 < 2 ^ 64 }
-    ensures { Wrote out.old at (fields (refusal_fields (number refusal) line)) result out.new × (result ≤ at + 26) }
-{
-    let next = put_field(b"X", b'\t', out, at);
-    let next = put_number(number_of(refusal), b'\t', out, next);
-    put_number(line, b'\n', out, next)
+// A refusal and its line, from 1, or 0 if it is not the plan's.
+#[derive(Clone, Copy, PartialEq, Eq)]
+pub struct Refused {
+    pub refusal: Refusal,
+    pub line: u64,
+}
+
+impl Refused {
+    // Writes the line that a program prints; it has at most 26 bytes.
+    pub fn put(self, to: &mut Writer)
+        requires { to.old.at + 26 < 2 ^ 64 }
+        ensures short { to.new.at ≤ to.old.at + 26 }
+        ensures wrote { Writes to.old (fields (refusal_fields (number self.refusal) self.line)) to.new }
+    {
+        to.put_field(b"X", b'\t');
+        to.put_number(self.refusal.into(), b'\t');
+        to.put_number(self.line, b'\n');
+    }
 }

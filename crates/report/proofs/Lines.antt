@@ -2,14 +2,17 @@
 use Prim.Native.Nat.{ℕ, zero, suc, ◌+◌, ◌≤◌, ◌<◌}
 use mathlib.Core.Path.{◌≡◌, refl, sym, ap, ◌∙◌}
 use mathlib.Core.List.{List, [], ◌∷◌, ◌++◌, append-nil, append_assoc}
-use mathlib.Core.Option.{Option}
+use mathlib.Core.Option.{Option, none, some}
 use native.Mathlib.Nat.{add-zero}
 use native.Mathlib.Numerals.{add-one}
 use native.Mathlib.Omega.{arith}
 use lib.ListN.{length, take, drop, get_or, length-take}
 use lib.Seq.{take-length}
-use Rattle.text.specs.Writing.{plain, fields, Wrote}
-use Rattle.text.specs.WritingLaws.{wrote_none, wrote_then}
+use Rattle.text.specs.declared.write.Writer.{Writer}
+use Rattle.text.specs.Writing.{plain, fields}
+use Rattle.text.specs.WritingLaws.{wrote_none}
+use Rattle.text.specs.Writers.{Writes}
+use Rattle.text.specs.WriterLaws.{writes_then}
 use Rattle.plan.specs.Plan.{Task}
 use Rattle.tasks.specs.Accesses.{task_at}
 use Rattle.tasks.specs.Tasks.{Status}
@@ -17,12 +20,14 @@ use Rattle.machine.specs.State.{Setup, State}
 use Rattle.machine.specs.Step.{finished}
 use Rattle.machine.specs.Whereabouts.{leader}
 use Rattle.memory.specs.Layout as layout
-use Rattle.memory.specs.Codes.{status_code, option_code}
+use Rattle.std.specs.Prelude.{Option as RustOption}
+use Rattle.memory.specs.Codes.{status_of, option_code, option_of, coded_by}
 use Rattle.memory.specs.Rows.{outcome_at}
 use Rattle.memory.specs.RowLaws.{outcome_is}
 use Rattle.memory.specs.Labels.{label_at, label_in}
 use Rattle.memory.specs.declared.labels.Label.{Label}
 use Rattle.memory.specs.declared.rows.Outcome.{Outcome}
+use Rattle.memory.specs.declared.rows.TaskRow.{TaskRow}
 use Rattle.report.specs.Report.{outcome_fields, task_fields, lock_fields, total_permitted, outcome_line, task_line, task_lines, report}
 use Rattle.report.specs.Shown.{fields_of, TaskShown, Shown}
 use Rattle.report.specs.declared.Summary.{Summary}
@@ -41,17 +46,22 @@ lines_more c s i (suc k) (t ∷ ts) h =
 
 -- ---- a task's line
 
+-- a giver's number, read
+code_read : (o : Option ℕ) → coded_by (option_code o) ≡ option_of o
+code_read none = refl
+code_read (some g) = refl
+
 -- what is written of a task's numbers is the line of the task that they show
-pub wrote_task : {c : Setup} {s : State} {table places given bs : List ℕ} {i : ℕ} → TaskShown c s table places given bs i
-    → {label : List ℕ} {task : Outcome} {giver : ℕ} {out : List ℕ} {at next : ℕ} {after : List ℕ}
-    → label ≡ label_in bs (label_at places i) → task ≡ outcome_at table i → giver ≡ get_or given i 0
-    → ((x : Status) (g : Option ℕ) → status_code x ≡ task.status → option_code g ≡ giver
-    → Wrote out at (fields (task_fields i label x task.runner task.receipt task.ending g)) next after)
-    → Wrote out at (fields (fields_of c s i)) next after
+pub wrote_task : {c : Setup} {s : State} {table : List TaskRow} {places : List Label} {given bs : List ℕ} {i : ℕ} → TaskShown c s table places given bs i
+    → {label : List ℕ} {task : Outcome} {giver : RustOption ℕ} {w v : Writer}
+    → label ≡ label_in bs (label_at places i) → task ≡ outcome_at table i → giver ≡ coded_by (get_or given i 0)
+    → ((x : Status) (g : Option ℕ) → status_of x ≡ task.status → option_of g ≡ giver
+    → Writes w (fields (task_fields i label x task.runner task.receipt task.ending g)) v)
+    → Writes w (fields (fields_of c s i)) v
 wrote_task {s = s} {i = i} shown e f h w =
     let is = f ∙ shown.outcome in
     rw (e ∙ shown.label, ap (λ (t : Outcome). t.runner) is, ap (λ (t : Outcome). t.receipt) is, ap (λ (t : Outcome). t.ending) is)
-    at (w (s.tasks.status i) (s.giver i) (sym (ap (λ (t : Outcome). t.status) is)) (sym (h ∙ shown.giver)))
+    at (w (s.tasks.status i) (s.giver i) (sym (ap (λ (t : Outcome). t.status) is)) (sym (h ∙ ap coded_by shown.giver ∙ code_read (s.giver i))))
 
 pub label_short : (bs : List ℕ) (l : Label) {label : List ℕ} → label ≡ label_in bs l → l.size ≤ layout.most_label
     → length label ≤ layout.most_label
@@ -59,7 +69,7 @@ label_short bs l e h = omega (arith, ap length e, length-take l.size (drop l.pla
 
 -- ---- the whole report
 
-module _ {c : Setup} {s : State} {summary : Summary} {table places given bs : List ℕ}
+module _ {c : Setup} {s : State} {summary : Summary} {table : List TaskRow} {places : List Label} {given bs : List ℕ}
     (shown : Shown c s summary table places given bs) where
   task_shown : (i : ℕ) → i < length c.tasks → TaskShown c s table places given bs i
   task_shown i h =
@@ -71,33 +81,32 @@ module _ {c : Setup} {s : State} {summary : Summary} {table places given bs : Li
       }
 
   -- the lines of the first i tasks, and one more
-  module _ {out : List ℕ} {at : ℕ} where
-    pub first_none : Wrote out at (plain (task_lines c s 0 (take 0 c.tasks))) at out
+  module _ {w : Writer} where
+    pub first_none : Writes w (plain (task_lines c s 0 (take 0 c.tasks))) w
     unfolding task_lines
-    first_none = wrote_none
+    first_none = record { wrote = wrote_none; same = refl }
 
-    pub first_more : (i : ℕ) → i < summary.tasks → {next : ℕ} {after : List ℕ}
-        → Wrote out at (plain (task_lines c s 0 (take i c.tasks))) next after
-        → {end : ℕ} {last : List ℕ} → (TaskShown c s table places given bs i → Wrote after next (fields (fields_of c s i)) end last)
-        → Wrote out at (plain (task_lines c s 0 (take (i + 1) c.tasks))) end last
-    first_more i h w v =
+    pub first_more : (i : ℕ) → i < summary.tasks → {v u : Writer} → Writes w (plain (task_lines c s 0 (take i c.tasks))) v
+        → (TaskShown c s table places given bs i → Writes v (fields (fields_of c s i)) u)
+        → Writes w (plain (task_lines c s 0 (take (i + 1) c.tasks))) u
+    first_more i h lines task =
         let z : 0 + i ≡ i = omega arith in
         let here : i < length c.tasks = omega (arith, shown.count) in
-        wrote_then w (rw (add-one i) (rw z at (lines_more c s 0 i c.tasks here))) (v (task_shown i here))
+        writes_then lines (rw (add-one i) (rw z at (lines_more c s 0 i c.tasks here))) (task (task_shown i here))
 
   -- the first line, those of all tasks, and the last
-  pub wrote_report : (i : ℕ) {out mid after last : List ℕ} {at next end : ℕ}
-      → Wrote out 0 (fields (outcome_fields summary.finished summary.picks summary.permitted)) at mid
-      → Wrote mid at (plain (task_lines c s 0 (take i c.tasks))) next after → i ≡ summary.tasks
-      → Wrote after next (fields (lock_fields summary.head summary.tail summary.leader)) end last
-      → Wrote out 0 (plain (report c s)) end last
+  pub wrote_report : (i : ℕ) {w v u x : Writer}
+      → Writes w (fields (outcome_fields summary.finished summary.picks summary.permitted)) v
+      → Writes v (plain (task_lines c s 0 (take i c.tasks))) u → i ≡ summary.tasks
+      → Writes u (fields (lock_fields summary.head summary.tail summary.leader)) x
+      → Writes w (plain (report c s)) x
   unfolding report
-  wrote_report i {out} {mid} {after} {last} {at} {next} {end} u v e w =
+  wrote_report i {w} {v} {u} {x} first lines e lock =
       let all : take summary.tasks c.tasks ≡ c.tasks = rw shown.count (take-length c.tasks) in
-      let first : Wrote out 0 (fields (outcome_fields (finished c s) s.picks (total_permitted c))) at mid =
-      rw (shown.finished, shown.picks, shown.permitted) at u in
-      let lines : Wrote mid at (plain (task_lines c s 0 c.tasks)) next after = rw (e, all) at v in
-      let lock : Wrote after next (fields (lock_fields s.lock.head s.lock.tail (leader c s))) end last =
-      rw (shown.head, shown.tail, shown.leader) at w in
-      let both : Wrote out 0 (plain (outcome_line c s ++ task_lines c s 0 c.tasks)) next after = wrote_then first refl lines in
-      wrote_then both refl lock
+      let outcome : Writes w (fields (outcome_fields (finished c s) s.picks (total_permitted c))) v =
+      rw (shown.finished, shown.picks, shown.permitted) at first in
+      let tasks : Writes v (plain (task_lines c s 0 c.tasks)) u = rw (e, all) at lines in
+      let ends : Writes u (fields (lock_fields s.lock.head s.lock.tail (leader c s))) x =
+      rw (shown.head, shown.tail, shown.leader) at lock in
+      let both : Writes w (plain (outcome_line c s ++ task_lines c s 0 c.tasks)) u = writes_then outcome refl tasks in
+      writes_then both refl ends

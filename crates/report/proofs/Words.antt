@@ -1,32 +1,33 @@
 -- Words by the numbers that stand for them. Assumes nothing.
-use Prim.Native.Nat.{ℕ, zero, suc, ◌-◌, ◌≤◌}
+use Prim.Native.Nat.{ℕ}
 use mathlib.Core.Path.{◌≡◌, refl, sym, ap, ◌∙◌}
-use mathlib.Core.Logic.{◌≢◌}
-use mathlib.Core.List.{List, [], ◌∷◌}
+use mathlib.Core.Bool.{Bool, true, false}
+use Rattle.std.specs.Ordering.{partial_le}
+use Rattle.memory.specs.contracts.rows.StatusPartialOrd.TheImpl.{partial_cmp-value}
 use mathlib.Core.Option.{Option, none, some}
-use native.Mathlib.Omega.{arith}
 use lib.Dec.{leb}
-use Rattle.text.specs.Text.{bytes, line_feed, decimal, unknown, number_if, number_or_none}
-use Rattle.text.specs.Writing.{plain, field, Wrote}
-use Rattle.text.specs.WritingLaws.{wrote_then}
+use Rattle.text.specs.Text.{number_if, number_or_none}
+use Rattle.text.specs.Writers.{option_field}
 use Rattle.tasks.specs.Tasks.{Status, new, waiting, ready, held, running, over, stage}
-use Rattle.machine.specs.declared.Leader.TheVariants.{Due}
-use Rattle.memory.specs.Layout as layout
-use Rattle.memory.specs.Codes.{status_code, option_code}
-use Rattle.report.specs.Report.{status_name, known_from, leader_field}
+use Rattle.std.specs.Prelude.{Option as RustOption}
+use Rattle.std.specs.Bool.{then_some}
+use Rattle.memory.specs.Codes.{status_of, option_of}
+use Rattle.memory.specs.declared.rows.Status.{Status as RustStatus}
+use Rattle.memory.specs.declared.rows.Status.TheVariants.{New, Waiting, Ready, Held, Running, Over}
+use Rattle.report.specs.Report.{status_name, known_from}
 
 -- ---- statuses
 
-status_of : ℕ → Status
-status_of zero = new
-status_of (suc zero) = waiting
-status_of (suc (suc zero)) = ready
-status_of (suc (suc (suc zero))) = held
-status_of (suc (suc (suc (suc zero)))) = running
-status_of (suc (suc (suc (suc (suc n))))) = over
+read : RustStatus → Status
+read New = new
+read Waiting = waiting
+read Ready = ready
+read Held = held
+read Running = running
+read Over = over
 
-told : (x : Status) → status_of (status_code x) ≡ x
-unfolding status_of
+told : (x : Status) → read (status_of x) ≡ x
+unfolding read
 told new = refl
 told waiting = refl
 told ready = refl
@@ -34,51 +35,42 @@ told held = refl
 told running = refl
 told over = refl
 
-module _ (x : Status) (n : ℕ) (e : status_code x ≡ n) where
-  pub name_is : (y : Status) → n ≡ status_code y → status_name x ≡ status_name y
-  name_is y q = ap status_name (sym (told x) ∙ ap status_of (e ∙ q) ∙ told y)
-
--- no other word
-pub name_over : (x : Status) (n : ℕ) → status_code x ≡ n → n ≢ layout.new → n ≢ layout.waiting → n ≢ layout.ready → n ≢ layout.held
-    → n ≢ layout.running → status_name x ≡ status_name over
-name_over new n h a b c d e = absurd (a (sym h))
-name_over waiting n h a b c d e = absurd (b (sym h))
-name_over ready n h a b c d e = absurd (c (sym h))
-name_over held n h a b c d e = absurd (d (sym h))
-name_over running n h a b c d e = absurd (e (sym h))
-name_over over n h a b c d e = refl
+pub name_is : (x y : Status) (s : RustStatus) → status_of x ≡ s → s ≡ status_of y → status_name x ≡ status_name y
+name_is x y s e q = ap status_name (sym (told x) ∙ ap read (e ∙ q) ∙ told y)
 
 -- ---- numbers that may not be known
 
-stage_code : (x : Status) → stage x ≡ status_code x
-stage_code new = refl
-stage_code waiting = refl
-stage_code ready = refl
-stage_code held = refl
-stage_code running = refl
-stage_code over = refl
+-- statuses in their order, as the code compares them
+abbrev pub from : RustStatus → RustStatus → Bool
+from = partial_le (partial_cmp-value).it
 
-pub known_from_lem : (first x : Status) (n : ℕ) → status_code x ≡ n → (k : ℕ) → known_from first x k ≡ number_if (leb (status_code first) n) k
-known_from_lem first x n e k = rw (stage_code first, stage_code x, e)
+from_running : (x : Status) → from Running (status_of x) ≡ leb (stage running) (stage x)
+from_running new = refl
+from_running waiting = refl
+from_running ready = refl
+from_running held = refl
+from_running running = refl
+from_running over = refl
 
-module _ (o : Option ℕ) (n : ℕ) (e : option_code o ≡ n) where
-  pub worker_none : n ≡ 0 → number_or_none o ≡ unknown
-  worker_none q = go o (e ∙ q)
-    where
-      go : (o : Option ℕ) → option_code o ≡ 0 → number_or_none o ≡ unknown
-      go none h = refl
-      go (some w) h = absurd (omega arith)
+from_over : (x : Status) → from Over (status_of x) ≡ leb (stage over) (stage x)
+from_over new = refl
+from_over waiting = refl
+from_over ready = refl
+from_over held = refl
+from_over running = refl
+from_over over = refl
 
-  pub worker_some : 1 ≤ n → number_or_none o ≡ decimal (n - 1)
-  worker_some q = go o e
-    where
-      go : (o : Option ℕ) → option_code o ≡ n → number_or_none o ≡ decimal (n - 1)
-      go none h = absurd (omega arith)
-      go (some w) h = let same : w ≡ n - 1 = omega arith in ap decimal same
+shown_if : (b : Bool) (k : ℕ) → number_if b k ≡ option_field (then_some b k)
+shown_if true k = refl
+shown_if false k = refl
 
--- ---- the mark of a worker that is due
+module _ (x : Status) (k : ℕ) {s : RustStatus} (e : status_of x ≡ s) {b : Bool} {n : RustOption ℕ} where
+  pub known_running : b ≡ from Running s → n ≡ then_some b k → known_from running x k ≡ option_field n
+  known_running h g = rw (g, ← shown_if b k, h, ← e, from_running x)
 
-pub wrote_marked : (w : ℕ) {out mid after : List ℕ} {at next end : ℕ} → Wrote mid next (field (decimal w) line_feed) end after
-    → Wrote out at (plain (62 ∷ [])) next mid → Wrote out at (field (leader_field (Due w)) line_feed) end after
-unfolding bytes
-wrote_marked w number mark = wrote_then mark refl number
+  pub known_over : b ≡ from Over s → n ≡ then_some b k → known_from over x k ≡ option_field n
+  known_over h g = rw (g, ← shown_if b k, h, ← e, from_over x)
+
+pub giver_shown : (o : Option ℕ) → number_or_none o ≡ option_field (option_of o)
+giver_shown none = refl
+giver_shown (some w) = refl

@@ -1,13 +1,15 @@
--- What a summary, the array of the tasks, those of their labels' places and of their givers, and the plan's text say of a state.
+-- What a summary, the rows of the tasks, their labels' places, the numbers of their givers, and the plan's text say of a state.
 use Rattle.std.specs.Prelude.{ℕ, ◌<◌, ◌≡◌, List, length, get_or}
 use Rattle.tasks.specs.Accesses.{task_at}
 use Rattle.machine.specs.State.{Setup, State}
 use Rattle.machine.specs.Step.{finished}
-use Rattle.memory.specs.Codes.{status_code, option_code}
+use Rattle.memory.specs.Codes.{status_of, option_code}
 use Rattle.memory.specs.Rows.{TaskRows, outcome_at}
 use Rattle.memory.specs.Labels.{label_at, label_in, Labels}
 use Rattle.machine.specs.Whereabouts.{leader}
 use Rattle.report.specs.Report.{task_fields, total_permitted}
+use Rattle.memory.specs.declared.rows.TaskRow.{TaskRow}
+use Rattle.memory.specs.declared.labels.Label.{Label}
 use Rattle.report.specs.declared.Summary.{Summary}
 
 -- the fields of task i's line
@@ -17,11 +19,11 @@ fields_of c s i =
     task_fields i (task_at c.tasks i).label (now.status i) (now.runner i) (now.receipt i) (now.ending i) (s.giver i)
 
 -- of one task
-pub record TaskShown (c : Setup) (s : State) (table places given text : List ℕ) (i : ℕ) : Type 0 where
+pub record TaskShown (c : Setup) (s : State) (table : List TaskRow) (places : List Label) (given text : List ℕ) (i : ℕ) : Type 0 where
   pub outcome :
       outcome_at table i
       ≡ record {
-        status = status_code (s.tasks.status i);
+        status = status_of (s.tasks.status i);
         runner = s.tasks.runner i;
         receipt = s.tasks.receipt i;
         ending = s.tasks.ending i;
@@ -29,7 +31,7 @@ pub record TaskShown (c : Setup) (s : State) (table places given text : List ℕ
   pub label : label_in text (label_at places i) ≡ (task_at c.tasks i).label
   pub giver : get_or given i 0 ≡ option_code (s.giver i)
 
-pub record Shown (c : Setup) (s : State) (summary : Summary) (table places given text : List ℕ) : Type 0 where
+pub record Shown (c : Setup) (s : State) (summary : Summary) (table : List TaskRow) (places : List Label) (given text : List ℕ) : Type 0 where
   pub finished : summary.finished ≡ finished c s
   pub picks : summary.picks ≡ s.picks
   pub permitted : summary.permitted ≡ total_permitted c

@@ -4,6 +4,7 @@
 
 ghost use Rattle.std.specs.Prelude.{◌≡◌, ℕ, ◌+◌, ◌^◌, ◌≤◌, ◌<◌, length, get_or};
 ghost use Rattle.text.specs.Writing.{plain, fields, Wrote};
+ghost use Rattle.text.specs.Writers.{Writes};
 ghost use Rattle.machine.specs.State.{Setup, State};
 ghost use Rattle.memory.specs.Layout as layout;
 ghost use Rattle.memory.specs.Labels.{label_at};
@@ -14,8 +15,10 @@ ghost use Rattle.report.specs.Shown.{fields_of, TaskShown, Shown};
 
 use line::{put_lock_line, put_outcome_line, put_task_line};
 use machine::Leader;
-use memory::labels::label_of;
-use memory::rows::outcome_of;
+use memory::codes::coded_by;
+use memory::labels::Label;
+use memory::rows::{TaskRow, outcome_of};
+use text::write::Writer;
 
 mod line; // line.rt: its lines
 mod word; // word.rt: the words of its fields
@@ -39,50 +42,52 @@ pub fn total_permitted(masks: &[u64], n: usize) -> u64
     ensures numbers { result ≡ ones_of masks.now n }
     ensures meaning { (c : Setup) → n ≡ length c.tasks → Masks c masks.now → result ≡ total_permitted c }
 {
-    let mut total: u64 = 0;
-    let mut i: usize = 0;
-    while i < n {
-        let mask = masks[i] as u32;
-        total += u32::count_ones(mask) as u64;
-        i += 1;
-    }
-    total
+    masks[..n]
+        .iter()
+        .map(|mask| u64::from(mask.count_ones()))
+        .sum()
 }
 
 // Writes a task's line, with its label out of the plan's text.
 fn put_task(
     i: usize,
     text: &[u8],
-    tasks: &[u64],
-    labels: &[u64],
+    tasks: &[TaskRow],
+    labels: &[Label],
     givers: &[u64],
-    out: &mut [u8],
-    at: usize,
-) -> usize
-    requires { (length tasks.now ≡ layout.task_rows) × (length labels.now ≡ layout.label_rows)
+    to: &mut Writer,
+)
+    requires { (length tasks.now ≡ layout.most_tasks) × (length labels.now ≡ layout.most_tasks)
         × (layout.most_tasks ≤ length givers.now) × (i < layout.most_tasks) × ((label_at labels.now i).size ≤ layout.most_label)
-        × (at + task_line_size < 2 ^ 64) }
-    ensures short { result ≤ at + task_line_size }
+        × (to.old.at + task_line_size < 2 ^ 64) }
+    ensures short { to.new.at ≤ to.old.at + task_line_size }
     ensures wrote { (c : Setup) (s : State)
         → TaskShown c s tasks.now labels.now givers.now text.now i
-        → Wrote out.old at (fields (fields_of c s i)) result out.new }
+        → Writes to.old (fields (fields_of c s i)) to.new }
 {
-    let stands = label_of(labels, i);
+    let stands = labels[i];
     let label = kept::tasks::label(text, stands.place as usize, stands.size as usize);
-    put_task_line(i as u64, label, outcome_of(tasks, i), givers[i], out, at)
+    put_task_line(
+        i as u64,
+        label,
+        outcome_of(tasks, i),
+        coded_by(givers[i]),
+        to,
+    );
 }
 
 // Writes the report into the first bytes of an output, as far as it reaches; how many bytes it has. By task, `givers` has the giver's
 // number and 1 more, or 0. The numbers must show a state, so for every call that is allowed the output is fixed.
+// Rows, labels and givers stay slices side by side: `Shown` in the clauses, which may not change, is of each of them.
 pub fn put_report(
     summary: Summary,
     text: &[u8],
-    tasks: &[u64],
-    labels: &[u64],
+    tasks: &[TaskRow],
+    labels: &[Label],
     givers: &[u64],
     output: &mut [u8],
 ) -> usize
-    requires lengths { (length tasks.now ≡ layout.task_rows) × (length labels.now ≡ layout.label_rows)
+    requires lengths { (length tasks.now ≡ layout.most_tasks) × (length labels.now ≡ layout.most_tasks)
         × (layout.most_tasks ≤ length givers.now) × (summary.tasks ≤ layout.most_tasks) }
     requires shown { (c : Setup) × (s : State) × Shown c s summary tasks.now labels.now givers.now text.now }
     ensures { (c : Setup) (s : State)
@@ -90,18 +95,11 @@ pub fn put_report(
         → Wrote output.old 0 (plain (report c s)) result output.new }
 {
     let n = summary.tasks as usize;
-    let mut next = put_outcome_line(
-        summary.finished,
-        summary.picks,
-        summary.permitted,
-        output,
-        0,
-    );
-    let mut i: usize = 0;
-    while i < n {
-        next = put_task(i, text, tasks, labels, givers, output, next);
-        i += 1;
+    let mut to = Writer { out: output, at: 0 };
+    put_outcome_line(summary.finished, summary.picks, summary.permitted, &mut to);
+    for i in 0..n {
+        put_task(i, text, tasks, labels, givers, &mut to);
     }
-    let leader = summary.leader;
-    put_lock_line(summary.head, summary.tail, leader, output, next)
+    put_lock_line(summary.head, summary.tail, summary.leader, &mut to);
+    to.at
 }

@@ -28,7 +28,7 @@ use Rattle.steps.specs.declared.Counts.{Counts}
 use Rattle.steps.proofs.Parts.{station_at, part_of, station_of}
 use Rattle.steps.proofs.Stations.{queue_count}
 use Rattle.steps.proofs.Choosing.{ready_length}
-use Rattle.scheduler.specs.Lent.{with_device}
+use Rattle.scheduler.specs.Lent.{memory}
 use Rattle.scheduler.proofs.Lending.{with_station}
 
 -- ---- the places
@@ -141,6 +141,10 @@ readied n r =
       picks = n.picks;
       tally = n.tally;
     }
+
+-- with another content of the device's array too
+abbrev pub with_device : Memory → Counts → List ℕ → Memory
+with_device m n device = memory n m.wait m.registrations m.tickets m.cells device m.rows m.accesses
 
 module _ {c : Setup} {m : Memory} {shares : ℕ → List ℕ} {s : State} {w : ℕ} (h : Holds c m shares s) (fit : Fit c s w)
     (at : (get_or (shares w) place_at 0 ≡ DRAINING_TO_SERVE) ⊎ (get_or (shares w) place_at 0 ≡ DRAINING_TO_ADD)) where

@@ -12,7 +12,7 @@ use Rattle.machine.specs.Ranges.{Fit, acted}
 use Rattle.machine.proofs.Ranges.{acted_step}
 use Rattle.steps.specs.Layout.{place_at, number_at, most_workers, IDLE, TRYING, REGISTERING, LOOKING}
 use Rattle.steps.specs.Layout.{SERVING, HANDING, LEAVING, DRAINING_TO_SERVE, DRAINING_TO_ADD}
-use Rattle.steps.specs.Memory.{station, Memory, Long, with_counts, Holds, Able}
+use Rattle.steps.specs.Memory.{station, Memory, with_counts, Holds, Able}
 use Rattle.steps.proofs.Parts.{station_at}
 use Rattle.steps.proofs.Acting.{own_stationed}
 use Rattle.steps.proofs.Stations.{place_few}
@@ -42,17 +42,6 @@ counted n =
     }
 
 module _ {m : Memory} where
-  pub counted_long : Long m → Long (with_counts m (counted m.counts))
-  counted_long l =
-      record {
-        wait = l.wait;
-        registrations = l.registrations;
-        tickets = l.tickets;
-        cells = l.cells;
-        device = l.device;
-        tasks = l.tasks;
-      }
-
   pub counted_holds : {c : Setup} {shares : ℕ → List ℕ} {s : State}
       → Holds c m shares s → Holds c (with_counts m (counted m.counts)) shares (picked s)
   counted_holds h =

@@ -1,9 +1,12 @@
 -- The memory of what is lent.
 use Rattle.std.specs.Prelude.{ℕ, List}
-use Rattle.steps.specs.Memory.{Memory}
+use Rattle.memory.specs.declared.rows.TaskRow.{TaskRow}
+use Rattle.memory.specs.declared.rows.AccessRow.{AccessRow}
+use Rattle.steps.specs.Memory.{Memory, Long}
 use Rattle.steps.specs.declared.Counts.{Counts}
+use Rattle.scheduler.specs.declared.arrays.Arrays.{Arrays}
 
-abbrev pub memory : Counts → (wait registrations tickets cells device rows accesses : List ℕ) → Memory
+abbrev pub memory : Counts → (wait registrations tickets cells device : List ℕ) → (rows : List TaskRow) → (accesses : List AccessRow) → Memory
 memory n wait registrations tickets cells device rows accesses =
     record {
       counts = n;
@@ -16,6 +19,19 @@ memory n wait registrations tickets cells device rows accesses =
       accesses = accesses;
     }
 
--- with the device's array, where no more is lent
-abbrev pub with_device : Memory → Counts → List ℕ → Memory
-with_device m n device = memory n m.wait m.registrations m.tickets m.cells device m.rows m.accesses
+-- the numbers and the arrays of a run
+abbrev pub memory_of : Counts → Arrays → Memory
+memory_of n a = memory n a.wait a.registrations a.tickets a.cells a.device a.rows a.accesses
+
+-- the arrays have their lengths
+pub long_arrays : (n : Counts) (a : Arrays) → Long (memory_of n a)
+long_arrays n a =
+    let (wait, registrations, tickets, cells, device, rows, accesses) = a.long in
+    record {
+      wait = wait;
+      registrations = registrations;
+      tickets = tickets;
+      cells = cells;
+      device = device;
+      tasks = record { rows = rows; accesses = accesses };
+    }

@@ -15,6 +15,8 @@ use Rattle.tasks.specs.Flags.{no_flag}
 use Rattle.tasks.specs.Tasks as T
 use Rattle.memory.specs.Layout as layout
 use Rattle.memory.specs.Rows.{TaskRows, AccessRows}
+use Rattle.memory.specs.declared.rows.TaskRow.{TaskRow}
+use Rattle.memory.specs.declared.rows.AccessRow.{AccessRow}
 use Rattle.memory.specs.Memory.{fresh_tally}
 use Rattle.memory.specs.Starting as tasks
 use Rattle.machine.specs.State.{Setup, idle, start}
@@ -80,7 +82,7 @@ module _ (store : List ℕ) (long : shares_size ≤ length store) (zeros : take 
 -- ---- and a device's array with no giver and with the plan's masks
 
 module _ (c : Setup) (few : c.workers ≤ most_workers) where
-  pub starts : (ends : Ends) (wait registrations tickets cells device rows accesses store : List ℕ)
+  pub starts : (ends : Ends) (wait registrations tickets cells device : List ℕ) (rows : List TaskRow) (accesses : List AccessRow) (store : List ℕ)
       → shares_size ≤ length store → take shares_size store ≡ replicate shares_size 0
       → Given (length c.tasks) device (λ _. none) → Masked c.workers c.tasks device
       → lock_of c.slots ends.head.0 ends.tail.0 wait registrations tickets cells ≡ L.start c.slots

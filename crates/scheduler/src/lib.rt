@@ -8,21 +8,25 @@ ghost use Rattle.machine.specs.State.{Setup, State, Purpose, draining, picked};
 ghost use Rattle.machine.specs.Step.{next_drain, step, finished};
 ghost use Rattle.machine.specs.Ranges.{Fit, acted};
 ghost use Rattle.steps.specs.Layout.{station_size, place_at, most_workers, shares_size, IDLE, DRAINING_TO_SERVE, DRAINING_TO_ADD};
-ghost use Rattle.steps.specs.Memory.{share, Stationed, Memory, Long, with_tasks, with_counts, Holds, Able, Acts};
+ghost use Rattle.steps.specs.Memory.{share, Stationed, Memory, with_tasks, with_counts, Holds, Able, Acts};
 ghost use Rattle.scheduler.specs.Starting.{fresh_counts};
-ghost use Rattle.scheduler.specs.Lent.{memory, with_device};
+ghost use Rattle.scheduler.specs.Lent.{memory_of};
 
+use arrays::Arrays;
 use duties::create::is_creating;
 use lock::Ends;
 use lock_steps::owner::{hand_step, leave_step, serve_step};
 use lock_steps::wait::{look_step, register_step, ticket_step, try_step};
 use memory::layout::{ADDS_COUNT, FREE, MAIL_COUNT, SHARE, STAND, STATION};
+use memory::rows::{AccessRow, TaskRow};
 use steps::layout::{
     DRAINING_TO_SERVE, HANDING, IDLE, LEAVING, LOOKING, NUMBER, PLACE, QUEUED, REGISTERING,
     SERVING, TRYING,
 };
 use steps::station::{drain, go};
 use steps::{Counts, create_step, full_step, mind_step, push_step};
+
+pub mod arrays; // arrays.rt: the arrays of a run
 
 // The numbers of a run in which no pick has been taken. Law: `starts`.
 pub fn fresh(ends: Ends, workers: u64, slots: u64, capacity: u64, tasks: u64) -> Counts
@@ -42,7 +46,13 @@ pub fn fresh(ends: Ends, workers: u64, slots: u64, capacity: u64, tasks: u64) ->
 }
 
 // Out of the lock: a duty to the tasks before adding, adding before creating or taking a ticket.
-fn idle_step(n: Counts, rows: &mut [u64], accesses: &mut [u64], own: &mut [u64], w: u64) -> Counts
+fn idle_step(
+    n: Counts,
+    rows: &mut [TaskRow],
+    accesses: &mut [AccessRow],
+    own: &mut [u64],
+    w: u64,
+) -> Counts
     requires { ((m : Memory) × Able (with_tasks m n rows.old accesses.old) own.old w)
         × (get_or own.old place_at 0 ≡ IDLE) }
     ensures { (m : Memory) → Acts (with_tasks m n rows.old accesses.old) own.old
@@ -66,42 +76,61 @@ fn idle_step(n: Counts, rows: &mut [u64], accesses: &mut [u64], own: &mut [u64],
 }
 
 // The step of worker w in its share, at any place but those that drain.
-fn step_own(
-    n: Counts,
-    wait: &mut [u64],
-    registrations: &mut [u64],
-    tickets: &mut [u64],
-    cells: &mut [u64],
-    device: &mut [u64],
-    rows: &mut [u64],
-    accesses: &mut [u64],
-    own: &mut [u64],
-    w: u64,
-) -> Counts
-    requires able { Able (memory n wait.old registrations.old tickets.old cells.old device.old rows.old accesses.old)
-        own.old w }
+fn step_own(n: Counts, arrays: &mut Arrays, own: &mut [u64], w: u64) -> Counts
+    requires able { Able (memory_of n arrays.old) own.old w }
     requires not_draining { (get_or own.old place_at 0 ≢ DRAINING_TO_SERVE) × (get_or own.old place_at 0 ≢ DRAINING_TO_ADD) }
-    ensures { Acts
-        (memory n wait.old registrations.old tickets.old cells.old
-        device.old rows.old accesses.old) own.old
-        (memory result wait.new registrations.new tickets.new cells.new
-        device.new rows.new accesses.new) own.new w }
+    ensures { Acts (memory_of n arrays.old) own.old (memory_of result arrays.new) own.new w }
 {
     let place = own[PLACE];
     match place {
-        IDLE => idle_step(n, rows, accesses, own, w),
+        IDLE => idle_step(n, &mut arrays.rows, &mut arrays.accesses, own, w),
         TRYING => try_step(n, own, w),
         REGISTERING => {
-            register_step(n, registrations, own, w);
+            register_step(n, &mut arrays.registrations, own, w);
             n
         }
         LOOKING => {
-            look_step(n, wait, tickets, cells, rows, own, w);
+            look_step(
+                n,
+                &arrays.wait,
+                &mut arrays.tickets,
+                &mut arrays.cells,
+                &mut arrays.rows,
+                own,
+                w,
+            );
             n
         }
-        SERVING => serve_step(n, registrations, tickets, cells, device, rows, own, w),
-        HANDING => hand_step(n, wait, registrations, tickets, cells, device, own, w),
-        _ => leave_step(n, wait, registrations, tickets, cells, device, own, w),
+        SERVING => serve_step(
+            n,
+            &arrays.registrations,
+            &mut arrays.tickets,
+            &mut arrays.cells,
+            &mut arrays.device,
+            &mut arrays.rows,
+            own,
+            w,
+        ),
+        HANDING => hand_step(
+            n,
+            &mut arrays.wait,
+            &arrays.registrations,
+            &arrays.tickets,
+            &arrays.cells,
+            &mut arrays.device,
+            own,
+            w,
+        ),
+        _ => leave_step(
+            n,
+            &mut arrays.wait,
+            &arrays.registrations,
+            &arrays.tickets,
+            &arrays.cells,
+            &mut arrays.device,
+            own,
+            w,
+        ),
     }
 }
 
@@ -122,77 +151,55 @@ fn drained(own: &mut [u64], k: u64, workers: u64)
 }
 
 // Drains a queue into the ready list: the device's part of its worker is lent, then that of worker w.
-fn drain_step(n: Counts, device: &mut [u64], store: &mut [u64], w: usize) -> Counts
+fn drain_step(n: Counts, arrays: &mut Arrays, store: &mut [u64], w: usize) -> Counts
     requires room { (shares_size ≤ length store.old) × (w < most_workers)
         × ((get_or (share store.old w) place_at 0 ≡ DRAINING_TO_SERVE)
         ⊎ (get_or (share store.old w) place_at 0 ≡ DRAINING_TO_ADD)) }
-    requires long { (m : Memory) × (c : Setup) × (s : State) × Long (with_device m n device.old)
-        × Holds c (with_device m n device.old) (share store.old) s × Fit c s w }
-    ensures held { (m : Memory) (c : Setup) (s : State) →
-        Holds c (with_device m n device.old) (share store.old) s → Fit c s w →
-        Holds c (with_device m result device.new) (share store.new) (acted c s w) }
+    requires held { (c : Setup) × (s : State) × Holds c (memory_of n arrays.old) (share store.old) s × Fit c s w }
+    ensures held { (c : Setup) (s : State) →
+        Holds c (memory_of n arrays.old) (share store.old) s → Fit c s w →
+        Holds c (memory_of result arrays.new) (share store.new) (acted c s w) }
     ensures later { drop shares_size store.new ≡ drop shares_size store.old }
 {
     let at = w * SHARE;
-    let end = w * SHARE + STATION;
+    let end = at + STATION;
     let k = store[at + NUMBER];
     let from = k as usize * SHARE;
-    let to = k as usize * SHARE + STATION;
-    let mut r = n;
-    r.ready = drain(&mut store[from..to], device, n.ready_at, n.ready);
+    let to = from + STATION;
+    let ready = drain(
+        &mut store[from..to],
+        &mut arrays.device,
+        n.ready_at,
+        n.ready,
+    );
     drained(&mut store[at..end], k, n.workers);
-    r
+    Counts { ready, ..n }
 }
 
 // One pick of worker w: the pick is counted, and w does what it does where it stands, in its share. The store past the shares keeps its
 // content (`later`); what `Holds` does not speak of is left to the program.
-pub fn pick(
-    n: Counts,
-    wait: &mut [u64],
-    registrations: &mut [u64],
-    tickets: &mut [u64],
-    cells: &mut [u64],
-    device: &mut [u64],
-    rows: &mut [u64],
-    accesses: &mut [u64],
-    store: &mut [u64],
-    w: usize,
-) -> Counts
+pub fn pick(n: Counts, arrays: &mut Arrays, store: &mut [u64], w: usize) -> Counts
     requires room { shares_size ≤ length store.old }
-    requires long { (c : Setup) × (s : State)
-        × Long (memory n wait.old registrations.old tickets.old cells.old device.old rows.old accesses.old)
-        × Holds c (memory n wait.old registrations.old tickets.old cells.old device.old rows.old accesses.old)
-        (share store.old) s
+    requires held { (c : Setup) × (s : State) × Holds c (memory_of n arrays.old) (share store.old) s
         × Fit c (picked s) w }
     ensures held { (c : Setup) (s : State) →
-        Holds c (memory n wait.old registrations.old tickets.old cells.old
-        device.old rows.old accesses.old) (share store.old) s →
+        Holds c (memory_of n arrays.old) (share store.old) s →
         Fit c (picked s) w →
-        Holds c (memory result wait.new registrations.new tickets.new cells.new
-        device.new rows.new accesses.new) (share store.new) (step c s w) }
+        Holds c (memory_of result arrays.new) (share store.new) (step c s w) }
     ensures later { drop shares_size store.new ≡ drop shares_size store.old }
 {
-    let mut r = n;
-    r.picks = n.picks + 1;
+    let taken = Counts {
+        picks: n.picks + 1,
+        ..n
+    };
     let at = w * SHARE;
     let end = at + SHARE;
     let place = store[at + PLACE];
     // the commoner way first: the compiler then lays it out without a jump
     if place < DRAINING_TO_SERVE {
-        return step_own(
-            r,
-            wait,
-            registrations,
-            tickets,
-            cells,
-            device,
-            rows,
-            accesses,
-            &mut store[at..end],
-            w as u64,
-        );
+        return step_own(taken, arrays, &mut store[at..end], w as u64);
     }
-    drain_step(r, device, store, w)
+    drain_step(taken, arrays, store, w)
 }
 
 // Whether the state is finished.
@@ -201,6 +208,5 @@ pub fn is_finished(n: Counts) -> bool
     ensures meaning { (m : Memory) (c : Setup) (s : State) (shares : ℕ → List ℕ) → Holds c (with_counts m n) shares s →
         result ≡ finished c s }
 {
-    let tally = n.tally;
-    memory::tally::is_finished(tally)
+    memory::tally::is_finished(n.tally)
 }

@@ -12,6 +12,8 @@ use Rattle.memory.specs.Layout as numbers
 use Rattle.tasks.specs.History as Th
 use Rattle.tasks.specs.Duties.{duty}
 use Rattle.memory.specs.Memory as T
+use Rattle.memory.specs.declared.rows.TaskRow.{TaskRow}
+use Rattle.memory.specs.declared.rows.AccessRow.{AccessRow}
 use Rattle.memory.specs.declared.tally.Tally.{Tally}
 use Rattle.machine.specs.State.{Place, idle, trying}
 use Rattle.machine.specs.Event.{minds, pushes, finds_full, event}
@@ -43,10 +45,10 @@ module _ {m : Memory} {own : List ℕ} {w : ℕ} (a : Able m own w) (at : get_or
 
   -- ---- a duty to the tasks
 
-  abbrev minded : Tally → (rows accesses : List ℕ) → Memory
+  abbrev minded : Tally → (rows : List TaskRow) (accesses : List AccessRow) → Memory
   minded tally rows accesses = with_tasks m (with_tally m.counts tally) rows accesses
 
-  minds_hold : (d : Th.Duty) → event a.c a.s w ≡ minds d → (tally : Tally) (rows accesses y : List ℕ)
+  minds_hold : (d : Th.Duty) → event a.c a.s w ≡ minds d → (tally : Tally) (rows : List TaskRow) (accesses : List AccessRow) (y : List ℕ)
       → T.HoldsTasks a.c.workers a.c.tasks (T.memory tally rows accesses) (upd parts w y)
       (Th.after a.c.tasks m.counts.picks a.s.tasks w (Th.minds d))
       (upd a.s.stand w (Th.stand_after a.c.tasks (a.s.stand w) (Th.minds d)))
@@ -66,7 +68,7 @@ module _ {m : Memory} {own : List ℕ} {w : ℕ} (a : Able m own w) (at : get_or
       refl
 
   pub mind_acts : (numbers.free < get_or own (station_size + numbers.stand) 0) ⊎ (0 < get_or own (station_size + numbers.mail_count) 0)
-      → (tally : Tally) (rows accesses y : List ℕ)
+      → (tally : Tally) (rows : List TaskRow) (accesses : List AccessRow) (y : List ℕ)
       → T.Acts T.its_duty m.counts.picks tasks_before (lent_part own) (T.memory tally rows accesses) y w
       → After (minded tally rows accesses) (with_part own y)
   mind_acts has tally rows accesses y acts =
@@ -78,7 +80,7 @@ module _ {m : Memory} {own : List ℕ} {w : ℕ} (a : Able m own w) (at : get_or
     no_duty = free_of_duty a stand mail
 
     pub create_acts : w ≡ 0 → get_or own (station_size + numbers.adds_count) 0 ≡ 0 → T.to_create m.counts.tally ≡ true
-        → (tally : Tally) (rows accesses y : List ℕ)
+        → (tally : Tally) (rows : List TaskRow) (accesses : List AccessRow) (y : List ℕ)
         → T.Acts T.its_creating m.counts.picks tasks_before (lent_part own) (T.memory tally rows accesses) y w
         → After (minded tally rows accesses) (with_part own y)
     create_acts first adds more tally rows accesses y acts =

@@ -10,6 +10,8 @@ use Rattle.plan.specs.PermitLaws.{mask_of}
 use Rattle.tasks.specs.Accesses.{task_at}
 use Rattle.memory.specs.Codes.{option_code}
 use Rattle.memory.specs.Memory as T
+use Rattle.memory.specs.declared.rows.TaskRow.{TaskRow}
+use Rattle.memory.specs.declared.rows.AccessRow.{AccessRow}
 use Rattle.memory.specs.declared.tally.Tally.{Tally}
 use Rattle.machine.specs.State.{Setup, Place, idle, trying, registering, looking, draining, serving, handing, leaving, State}
 use Rattle.machine.specs.Ranges.{Fit, acted}
@@ -67,8 +69,8 @@ pub record Memory : Type 0 where
   pub tickets : List ℕ
   pub cells : List ℕ
   pub device : List ℕ
-  pub rows : List ℕ
-  pub accesses : List ℕ
+  pub rows : List TaskRow
+  pub accesses : List AccessRow
 
 pub record Long (m : Memory) : Type 0 where
   pub wait : length m.wait ≡ most_slots
@@ -79,7 +81,7 @@ pub record Long (m : Memory) : Type 0 where
   pub tasks : T.Long (T.memory m.counts.tally m.rows m.accesses)
 
 -- the memory with other numbers and another content of what is named
-abbrev pub with_tasks : Memory → Counts → List ℕ → List ℕ → Memory
+abbrev pub with_tasks : Memory → Counts → List TaskRow → List AccessRow → Memory
 with_tasks m n rows accesses =
     record {
       counts = n;

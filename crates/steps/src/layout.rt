@@ -1,4 +1,5 @@
-// Where the device's numbers lie: the names of offsets and codes. `specs/Layout.antt` has the same.
+// Where the device's numbers lie: the names of offsets and codes. `specs/Layout.antt` has the same. The device's part of a share stays
+// numbers: it lies in the store of numbers that the caller lends.
 use memory::layout::MOST_TASKS;
 
 // In the device's part: the place, what it speaks of, how many are queued, the slot of a ticket that is waited with; the queue's slots.
@@ -12,7 +13,7 @@ pub const SLOT: usize = 3;
 
 pub(crate) const QUEUE: usize = 8;
 
-// The places: an owner's are from SERVING on, and those that drain are the last.
+// The places: an owner's are from SERVING on, and those that drain are the last. They are numbers, as a share lies in the lent store.
 pub const IDLE: u64 = 0;
 
 pub const TRYING: u64 = 1;

@@ -14,6 +14,7 @@ use duties::mind::mind;
 use layout::TRYING;
 use lock::Ends;
 use memory::layout::{SHARE, STATION};
+use memory::rows::{AccessRow, TaskRow};
 use memory::tally::Tally;
 use station::{go, push};
 
@@ -39,16 +40,14 @@ pub struct Counts {
 pub fn with_ends(n: Counts, ends: Ends) -> Counts
     ensures { result ≡ with_ends n ends }
 {
-    let mut r = n;
-    r.ends = ends;
-    r
+    Counts { ends, ..n }
 }
 
 // A worker's duty to the tasks: it tells, delivers, works or ends.
 pub fn mind_step(
     n: Counts,
-    rows: &mut [u64],
-    accesses: &mut [u64],
+    rows: &mut [TaskRow],
+    accesses: &mut [AccessRow],
     own: &mut [u64],
     w: u64,
 ) -> Counts
@@ -58,16 +57,17 @@ pub fn mind_step(
     ensures { (m : Memory) → Acts (with_tasks m n rows.old accesses.old) own.old
         (with_tasks m result rows.new accesses.new) own.new w }
 {
-    let tally = n.tally;
-    let time = n.picks;
-    let next = mind(tally, rows, accesses, &mut own[STATION..SHARE], time);
-    let mut r = n;
-    r.tally = next;
-    r
+    let tally = mind(n.tally, rows, accesses, &mut own[STATION..SHARE], n.picks);
+    Counts { tally, ..n }
 }
 
 // Worker 0 creates the tasks.
-pub fn create_step(n: Counts, rows: &mut [u64], accesses: &[u64], own: &mut [u64]) -> Counts
+pub fn create_step(
+    n: Counts,
+    rows: &mut [TaskRow],
+    accesses: &[AccessRow],
+    own: &mut [u64],
+) -> Counts
     requires { ((m : Memory) × Able (with_tasks m n rows.old accesses.now) own.old 0)
         × (get_or own.old place_at 0 ≡ IDLE)
         × (get_or own.old (station_size + part.stand) 0 ≡ part.free) × (get_or own.old (station_size + part.mail_count) 0 ≡ 0)
@@ -75,11 +75,8 @@ pub fn create_step(n: Counts, rows: &mut [u64], accesses: &[u64], own: &mut [u64
     ensures { (m : Memory) → Acts (with_tasks m n rows.old accesses.now) own.old
         (with_tasks m result rows.new accesses.now) own.new 0 }
 {
-    let tally = n.tally;
-    let next = create(tally, rows, accesses, &mut own[STATION..SHARE]);
-    let mut r = n;
-    r.tally = next;
-    r
+    let tally = create(n.tally, rows, accesses, &mut own[STATION..SHARE]);
+    Counts { tally, ..n }
 }
 
 // Gives the oldest task to add to the device, in whose queue there is room. The numbers stay: they are handed back so that they

@@ -1,5 +1,5 @@
 // The ready list in the device's array: a circular buffer, whose oldest task is at place 0.
-ghost use Rattle.std.specs.Prelude.{◌≡◌, ◌≤◌, ◌<◌, length, get_or, drop};
+ghost use Rattle.std.specs.Prelude.{◌≡◌, ◌≤◌, ◌<◌, length, get_or, drop, IfSome, unwrap_or};
 ghost use Rattle.runs.specs.Circular.{shifted};
 ghost use Rattle.plan.specs.Permits.{is_set};
 ghost use Rattle.memory.specs.Layout as layout;
@@ -28,22 +28,21 @@ fn is_set(mask: u64, w: u64) -> bool
     (mask >> w) % 2 == 1
 }
 
-// The place of the first task that worker w may run, or the number of tasks where it may run none.
-pub fn first_permitted(n: Counts, device: &[u64], w: u64) -> u64
+// The place of the first task that worker w may run, if there is one.
+pub fn first_permitted(n: Counts, device: &[u64], w: u64) -> Option<u64>
     requires { (length device.now ≡ device_size) × (n.ready_at < READY) × (n.ready ≤ READY) × (w < most_workers)
         × Below layout.most_tasks (ready_in n device.now) }
-    ensures numbers { First (λ k. is_set (mask_at n device.now k) w) n.ready result }
-    ensures meaning { FallsFor n device.now w result }
+    ensures inside { IfSome result (λ k. k < n.ready) }
+    ensures numbers { First (λ k. is_set (mask_at n device.now k) w) n.ready (unwrap_or result n.ready) }
+    ensures meaning { FallsFor n device.now w (unwrap_or result n.ready) }
 {
-    let mut k: u64 = 0;
-    while k < n.ready {
+    for k in 0..n.ready {
         let at = MASKS + task_at(n, device, k) as usize;
         if is_set(device[at], w) {
-            return k;
+            return Some(k);
         }
-        k += 1;
     }
-    k
+    None
 }
 
 // The numbers with one task less: the oldest is one slot further.
@@ -51,10 +50,11 @@ fn one_taken(n: Counts) -> Counts
     requires { (0 < n.ready) × (n.ready_at < READY) }
     ensures { result ≡ one_taken n }
 {
-    let mut r = n;
-    r.ready_at = (n.ready_at + 1) % READY;
-    r.ready = n.ready - 1;
-    r
+    Counts {
+        ready_at: (n.ready_at + 1) % READY,
+        ready: n.ready - 1,
+        ..n
+    }
 }
 
 // Takes out the task at place k: those before it move up by one slot, the last of them first. What lies behind the list stays.
@@ -64,12 +64,10 @@ pub fn take_out(n: Counts, device: &mut [u64], k: u64) -> Counts
     ensures meaning { (ready_in result device.new ≡ without k (ready_in n device.old))
         × (drop READY device.new ≡ drop READY device.old) }
 {
-    let mut i = k;
-    while 0 < i {
-        let to = ((n.ready_at + i) % READY) as usize;
-        let from = ((n.ready_at + (i - 1)) % READY) as usize;
+    for i in (0..k).rev() {
+        let to = ((n.ready_at + (i + 1)) % READY) as usize;
+        let from = ((n.ready_at + i) % READY) as usize;
         device[to] = device[from];
-        i -= 1;
     }
     one_taken(n)
 }

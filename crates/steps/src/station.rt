@@ -60,12 +60,10 @@ pub fn drain(own: &mut [u64], ready: &mut [u64], at: u64, n: u64) -> u64
     if count == 0 {
         return n;
     }
-    let mut i: u64 = 0;
-    while i < count {
+    for i in 0..count {
         let to = ((at + n + i) % READY) as usize;
         let from = QUEUE + i as usize;
         ready[to] = own[from];
-        i += 1;
     }
     own[QUEUED] = 0;
     n + count

@@ -1,22 +1,20 @@
 -- What the kept rows of a plan say of its tasks and accesses. Assumes nothing.
 use Prim.Native.Nat.{ℕ, zero, suc, ◌+◌, ◌≤◌, ◌<◌}
 use mathlib.Core.Path.{◌≡◌, refl, sym, ap, ◌∙◌}
-use mathlib.Core.Bool.{Bool, true, false, cond}
+use mathlib.Core.Bool.{not}
 use mathlib.Core.List.{List, [], ◌∷◌, ◌++◌}
 use native.Mathlib.Omega.{arith}
 use lib.ListN.{length, get_or, take, length-append, get_or-append}
 use lib.Seq.{get_or-append-add}
-use lib.Dec.{eqb}
 use Rattle.plan.specs.Plan.{Task, Plan}
 use Rattle.plan.specs.Reading.{reading, accepted}
 use Rattle.plan.specs.Accepted.{WellFormed}
 use Rattle.plan.proofs.Accepted.{accepted_well_formed}
-use Rattle.tasks.specs.Accesses.{no_task, no_access, accesses, task_at, access_at, first, reader}
+use Rattle.tasks.specs.Accesses.{no_task, no_access, accesses, task_at, access_at, first}
 use Rattle.tasks.proofs.Promise.{first_suc, first_all, first_mono, of_task}
 use Rattle.kept.specs.declared.tasks.Row.{Row}
-use Rattle.kept.specs.declared.tasks.Touch.{Touch}
-use Rattle.plan.specs.PassFields.{bit}
-use Rattle.kept.specs.Tasks.{row_at, touch_at, touch_of, TaskIn, HasTasks}
+use Rattle.plan.specs.declared.access.Access.{Access}
+use Rattle.kept.specs.Tasks.{row_at, TaskIn, HasTasks}
 use Rattle.memory.specs.Layout as layout
 use Rattle.memory.specs.Labels.{LabelOf}
 use Rattle.tables.specs.Laid.{IsAccess, AreAccesses}
@@ -37,34 +35,28 @@ access_of (t ∷ ts) (suc i) k l h =
     omega (arith, length-append t.accesses before) in
     rw e (get_or-append-add t.accesses (accesses ts) (length before + k) no_access ∙ access_of ts i k (omega arith) h)
 
--- 1 for a reader, out of 1 for a writer
-reads : (w : Bool) → ◌≡◌ {A = ℕ} (cond w 0 1) (cond (eqb (bit w) 1) 0 1)
-reads true = refl
-reads false = refl
-
-pub one_access : (ts : List Task) (i at n k : ℕ) (kept : List ℕ) (touch : Touch) → touch ≡ touch_at kept i k
-    → AreAccesses ts i at n kept → k < n → IsAccess ts (at + k) i (cond (eqb touch.writes 1) 0 1) touch.address
-unfolding reader
-one_access ts i at n k kept touch e h l =
+pub one_access : (ts : List Task) (i at k : ℕ) (row : Row) (x : Access) → x ≡ get_or row.accesses k no_access
+    → AreAccesses ts i at row → k < row.count → IsAccess ts (at + k) i (not x.writes) x.address
+one_access ts i at k row x e h l =
     record {
       low = omega (arith, ends, first_mono ts (suc i) (length ts) h.low, first_all ts (length ts) (omega arith));
       of = of_task ts (at + k) i h.low (omega (arith, h.begins)) (omega (arith, ends));
-      kind = reads (access_at ts (at + k)).writes ∙ ap (λ (x : Touch). cond (eqb x.writes 1) 0 1) (sym touched);
-      at = ap (λ (x : Touch). x.address) (sym touched);
+      kind = ap (λ (y : Access). not y.writes) (sym same);
+      at = ap (λ (y : Access). y.address) (sym same);
     }
   where
-    ends : first ts (suc i) ≡ at + n
+    ends : first ts (suc i) ≡ at + row.count
     ends = omega (arith, first_suc ts i h.low, h.begins, h.count)
 
     is : access_at ts (at + k) ≡ get_or (task_at ts i).accesses k no_access
     is = ap (λ x. access_at ts (x + k)) (sym h.begins) ∙ access_of ts i k h.low (omega (arith, h.count))
 
-    touched : touch ≡ touch_of (access_at ts (at + k))
-    touched = e ∙ h.accesses k l ∙ ap touch_of (sym is)
+    same : x ≡ access_at ts (at + k)
+    same = e ∙ h.accesses k l ∙ sym is
 
 -- ---- tasks
 
-module _ (text : List ℕ) (p : Plan) (e : reading text ≡ accepted p) (kept : List ℕ) (has : HasTasks text kept p.tasks) where
+module _ (text : List ℕ) (p : Plan) (e : reading text ≡ accepted p) (kept : List Row) (has : HasTasks text kept p.tasks) where
   pub formed : WellFormed p
   formed = accepted_well_formed text p e
 
@@ -74,7 +66,7 @@ module _ (text : List ℕ) (p : Plan) (e : reading text ≡ accepted p) (kept : 
     pub cost : row.cost ≡ (task_at p.tasks i).cost
     pub count : row.count ≡ length (task_at p.tasks i).accesses
     pub few : row.count ≤ layout.most_task_accesses
-    pub accesses : (at : ℕ) → at ≡ first p.tasks i → AreAccesses p.tasks i at row.count kept
+    pub accesses : (at : ℕ) → at ≡ first p.tasks i → AreAccesses p.tasks i at row
 
   pub says_row : (i : ℕ) → i < length p.tasks → RowSays i (row_at kept i)
   says_row i l =
@@ -104,7 +96,7 @@ module _ (text : List ℕ) (p : Plan) (e : reading text ≡ accepted p) (kept : 
   first_next i row l h = omega (arith, first_suc p.tasks i l, h.count)
 
 -- what keeps the stores within the arrays
-module _ (kept : List ℕ) (count : ℕ) where
+module _ (kept : List Row) (count : ℕ) where
   pub task_low : Readable kept count → (i : ℕ) → i < count → i < layout.most_tasks
   task_low (text, p, e, size, has) i l = omega (arith, size, (formed text p e kept has).tasks_few)
 

@@ -3,7 +3,8 @@ use Rattle.std.specs.Prelude.{ℕ, suc, ◌-◌, ◌<◌, ◌≡◌, Bool, true,
 use Rattle.std.proofs.Math.Option.{Option}
 use Rattle.runs.specs.Sums.{sum}
 use Rattle.runs.specs.Searches.{last_below, first_from}
-use Rattle.plan.specs.Plan.{Access, Task}
+use Rattle.plan.specs.Plan.{Task}
+use Rattle.plan.specs.declared.access.Access.{Access}
 use Rattle.plan.specs.Line.{repeats}
 -- the task of a number, and what stands for a task or an access that is not there
 pub use Rattle.plan.specs.Chains.{no_task, no_access, task_at}

@@ -5,7 +5,8 @@ use Rattle.std.proofs.Math.Option.{Option, none, some}
 use Rattle.runs.specs.Update.{upd}
 use Rattle.runs.specs.Picks.{run}
 use Rattle.runs.specs.Below.{every_below}
-use Rattle.plan.specs.Plan.{Access, Task}
+use Rattle.plan.specs.Plan.{Task}
+use Rattle.plan.specs.declared.access.Access.{Access}
 use Rattle.plan.specs.Orders.{numbers_from}
 use Rattle.runs.specs.Searches.{last_below, first_from}
 use Rattle.tasks.specs.Accesses.{accesses, total, task_of, first, reader, same_address, prev, next}

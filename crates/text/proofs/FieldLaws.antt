@@ -1,17 +1,18 @@
 -- Laws of fields: where the first one stands, one field more of a line, and the line that they are.
-use Rattle.std.specs.Prelude.{ℕ, suc, ◌+◌, ◌≤◌, ◌<◌, ◌≡◌, refl, Bool, true, false, cond, List, [], ◌∷◌, ◌++◌, ◌≢◌, eqb, length, take, drop, get_or}
-use Rattle.std.proofs.Common.{sym, ap, ◌∙◌, append_assoc, ⊎_elim, arith, add-zero, length-append, length-drop, drop_of_length-le, drop-drop, get_or-drop}
+use Rattle.std.specs.Prelude.{Result, ℕ, suc, ◌+◌, ◌≤◌, ◌<◌, ◌≡◌, refl, Bool, true, false, cond, List, [], ◌∷◌, ◌++◌, ◌≢◌, eqb, length, take, drop, get_or}
+use Rattle.std.proofs.Common.{sym, ap, ◌∙◌, append_assoc, ⊎_elim, arith, add-zero, length-append, length-drop, drop_of_length-le, drop-drop, get_or-drop, ne_eqb, eqb-true}
 use Rattle.std.proofs.Math.Option.{Option, none, some}
 use Rattle.std.proofs.Math.ListN.{get_or-eq_default}
 use Rattle.std.proofs.Math.Seq.{take-append_seam, drop-append-add}
-use borrow.Author.Tests.{ne_eqb, eqb-true}
 use Rattle.runs.specs.Update.{order, clash}
 use Rattle.runs.specs.Tests.{ways}
 use Rattle.runs.specs.Stores.{drop_from}
+use Rattle.text.specs.declared.read.Field.{Field}
+use Rattle.text.specs.declared.read.Malformed.{Malformed}
 use Rattle.text.specs.Text.{tab, line_feed, on_first, split}
 use Rattle.text.specs.LineEnds.{NONE, lines_size, line_end, after_look, Reaches}
 use Rattle.text.proofs.LineEnds.{look_within, reaches_on, reaches_feed, reaches_other}
-use Rattle.text.specs.Fields.{Cut, endless, cut, cut_after, field_of, Unsaid, Answers, said, unsaid}
+use Rattle.text.specs.Fields.{Cut, endless, cut, cut_after, field_of, Unsaid, as_field, malformed, Answers, said, unsaid}
 use Rattle.text.specs.Fields.{First, unended, first, behind, begun, first_line, goes_on, Fields}
 
 -- ---- the first field from a place on, by the byte there
@@ -56,26 +57,26 @@ module _ (text : List ℕ) (at : ℕ) where
   empty_reach in_text true e = reaches_other text at in_text (omega arith)
   empty_reach in_text false e = reaches_feed text at in_text e
 
-module _ {A B : Type 0} (good : B → ℕ → Bool → A) (bad : Bool → A) (says : List ℕ → Option B) (text : List ℕ) (at : ℕ)
+module _ {A B : Type 0} (value : B → A) (says : List ℕ → Option B) (text : List ℕ) (at : ℕ)
     (in_text : at ≤ length text) where
-  abbrev Here : A → Type 0
-  Here r = Answers good bad says text at r (after_look text at)
+  abbrev Here : Result (Field A) Malformed → Type 0
+  Here r = Answers value says text at r (after_look text at)
 
   module _ (more : Bool) (ends : get_or text at NONE ≡ cond more tab line_feed) where
     -- the empty field says something
-    pub answers_end : (b : B) → says [] ≡ some b → {r : A} → r ≡ good b (at + 1) more → Here r
+    pub answers_end : (b : B) → says [] ≡ some b → {r : Result (Field A) Malformed} → r ≡ as_field (value b) more → Here r
     answers_end b s is =
         let n = look_within text at (empty_within text at more ends) in
-        said [] b more (drop (at + 1) text) (empty_field text at more ends) s n (rw n is)
+        said [] b more (drop (at + 1) text) (empty_field text at more ends) s n is
 
     -- or nothing
-    pub answers_empty : says [] ≡ none → {r : A} → r ≡ bad more → Here r
+    pub answers_empty : says [] ≡ none → {r : Result (Field A) Malformed} → r ≡ malformed more → Here r
     answers_empty s is = unsaid more (rw (empty_field text at more ends) s) (empty_reach text at in_text more ends) is
 
   module _ (t : get_or text at NONE ≢ tab) (l : get_or text at NONE ≢ line_feed) where
     -- the byte is one of the field: it is answered by the rest of it
-    pub answers_on : at < length text → (next : List ℕ → Option B) → ((x : List ℕ) → next x ≡ says (get_or text at NONE ∷ x)) → {r : A} {n : ℕ}
-        → Answers good bad next text (at + 1) r n → Answers good bad says text at r n
+    pub answers_on : at < length text → (next : List ℕ → Option B) → ((x : List ℕ) → next x ≡ says (get_or text at NONE ∷ x))
+        → {r : Result (Field A) Malformed} {n : ℕ} → Answers value next text (at + 1) r n → Answers value says text at r n
     answers_on here next h {r} {n} (said x b more rest e s q is) =
         said (get_or text at NONE ∷ x) b more rest (field_on text at here t l ∙ rw e) (sym (h x) ∙ s) (omega arith) is
     answers_on here next h {r} {n} (unsaid more u reach is) =
@@ -87,7 +88,8 @@ module _ {A B : Type 0} (good : B → ℕ → Bool → A) (bad : Bool → A) (sa
         later (cut x m after) u = sym (h x) ∙ u
 
     -- no field begins so
-    pub answers_bad : ((x : List ℕ) → says (get_or text at NONE ∷ x) ≡ none) → {r : A} → r ≡ bad true → Here r
+    pub answers_bad : ((x : List ℕ) → says (get_or text at NONE ∷ x) ≡ none) → {r : Result (Field A) Malformed} → r ≡ malformed true
+        → Here r
     answers_bad h is = unsaid true none_there (reaches_other text at in_text l) is
       where
         never : (k : Cut) → Unsaid says (cut_after (get_or text at NONE) k)

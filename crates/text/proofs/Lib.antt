@@ -1,5 +1,4 @@
 pub mod Numbers
-pub mod Digits
 pub mod Reading
 pub mod LineEnds
 pub mod FieldLaws

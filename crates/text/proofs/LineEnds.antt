@@ -1,14 +1,14 @@
 -- Where the lines of a text end, and how far a reading has come in one.
-use Rattle.std.specs.Prelude.{ℕ, zero, suc, ◌+◌, ◌≤◌, ◌<◌, ◌≡◌, Bool, true, false, not, List, [], ◌∷◌, ◌++◌, map, ◌≢◌, eqb, length, drop, get_or}
+use Rattle.std.specs.Prelude.{ℕ, zero, suc, ◌+◌, ◌≤◌, ◌<◌, ◌≡◌, Bool, true, false, not, Some, None, List, [], ◌∷◌, ◌++◌, map, ◌≢◌, eqb, length, drop, get_or}
 use Rattle.std.proofs.Math.Path.{refl}
 use Rattle.std.proofs.Common.{sym, ap, ◌∙◌, ⊎_elim, arith, drop_of_length-le, ne_eqb, lt-ltb, le-ltb, eqb-true}
 use Rattle.std.proofs.Math.ListN.{get_or-eq_default}
 use Rattle.std.proofs.lemmas.Bool.{eqb-false}
-use Rattle.runs.specs.Update.{order}
+use Rattle.runs.specs.Update.{order, clash}
 use Rattle.runs.specs.Tests.{ways}
 use Rattle.runs.specs.Stores.{drop_from}
 use Rattle.text.specs.Text.{bytes, line_feed}
-use Rattle.text.specs.LineEnds.{lines_size, line_end, NONE, after_look, Reaches}
+use Rattle.text.specs.LineEnds.{lines_size, line_end, NONE, after_look, seen_at, Reaches}
 
 -- ---- the end of a line, by a byte
 
@@ -64,6 +64,24 @@ module _ (text : List ℕ) (at : ℕ) (in_text : at ≤ length text) where
   reaches_look =
       let b = get_or text at NONE in
       ways (eqb b line_feed) (λ e. rw e (reaches_feed (eqb-true b line_feed e))) (λ e. rw e (reaches_other (eqb-false b line_feed e)))
+
+-- ---- what a look sees
+
+module _ (text : List ℕ) (at : ℕ) where
+  pub seen_byte : {b : ℕ} → seen_at text at ≡ Some b → (at < length text) × (get_or text at NONE ≡ b)
+  seen_byte {b} e =
+      ⊎_elim
+      (λ (here : at < length text). let is : Some (get_or text at NONE) ≡ Some b = simp (lt-ltb at (length text) here) at e in (here, cc))
+      (λ (past : length text ≤ at). let no : None ≡ Some b = simp (le-ltb at (length text) past) at e in clash (cc))
+      (order at (length text))
+
+  pub seen_none : seen_at text at ≡ None → length text ≤ at
+  seen_none e =
+      ⊎_elim
+      (λ (here : at < length text).
+      let no : Some (get_or text at NONE) ≡ None = simp (lt-ltb at (length text) here) at e in clash (cc))
+      (λ (past : length text ≤ at). past)
+      (order at (length text))
 
 -- ---- lines one after the other
 

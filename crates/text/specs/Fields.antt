@@ -1,9 +1,10 @@
 -- The first field of a text, and what the readers of one field answer.
-use Rattle.std.specs.Prelude.{ℕ, ◌+◌, ◌*◌, ◌^◌, ◌≤◌, ◌≡◌, Bool, true, false, cond, not, ◌&&◌, List, [], ◌∷◌, ◌++◌, length, drop, eqb, ltb}
+use Rattle.std.specs.Prelude.{Result, Ok, Err, ℕ, ◌+◌, ◌-◌, ◌*◌, ◌^◌, ◌≤◌, ◌≡◌, Bool, true, false, cond, not, ◌&&◌, List, [], ◌∷◌, ◌++◌, length, drop, eqb, ltb}
+use Rattle.std.specs.Prelude as rust
 use Rattle.std.proofs.Math.Option.{Option, none, some}
+use Rattle.text.specs.declared.read.Field.{Field}
+use Rattle.text.specs.declared.read.Malformed.{Malformed}
 use Rattle.text.specs.declared.read.Number.{Number}
-use Rattle.text.specs.declared.read.Number.TheVariants.{Malformed, MalformedAtEnd, Is}
-use Rattle.text.specs.declared.read.Digits.{Digits}
 use Rattle.runs.specs.Every.{every}
 use Rattle.text.specs.Text.{tab, line_feed, on_first, is_digit, value_after, number_of}
 use Rattle.text.specs.LineEnds.{Reaches}
@@ -29,15 +30,26 @@ abbrev pub Unsaid : {B : Type 0} → (List ℕ → Option B) → Cut → Type 0
 Unsaid says endless = Unit {0}
 Unsaid says (cut x more rest) = says x ≡ none
 
--- the answer r of a reader for the field at a place, each byte of it looked at once, n bytes of the text so far: what its bytes say, with
--- the place after its end and whether a tab ended it; or it says nothing, and is left at a byte that shows it, where the line goes on or
--- has ended
-pub data Answers {A B : Type 0} (good : B → ℕ → Bool → A) (bad : Bool → A) (says : List ℕ → Option B) (text : List ℕ) (at : ℕ) (r : A)
+-- the answers for a field that says this, and for one that is not of its form, where the line goes on or has ended
+abbrev pub as_field : {A : Type 0} → A → Bool → Result (Field A) Malformed
+as_field v more = Ok (record { value = v; more = more })
+
+abbrev pub malformed : {A : Type 0} → Bool → Result (Field A) Malformed
+malformed more = Err (record { goes_on = more })
+
+-- the answer for a field that says this, at the byte that may end it
+abbrev pub ended : {A : Type 0} → A → rust.Option ℕ → Result (Field A) Malformed
+ended v rust.None = malformed true
+ended v (rust.Some b) = cond (eqb b tab) (as_field v true) (cond (eqb b line_feed) (as_field v false) (malformed true))
+
+-- the answer r of a reader for the field at a place, each byte of it looked at once, n bytes of the text so far: what its bytes say, as
+-- `value` gives it, and whether a tab ended it; or it says nothing, and is left at a byte that shows it, where the line goes on or has ended
+pub data Answers {A B : Type 0} (value : B → A) (says : List ℕ → Option B) (text : List ℕ) (at : ℕ) (r : Result (Field A) Malformed)
     (n : ℕ) : Type 0 where
   said : (x : List ℕ) (b : B) (more : Bool) (rest : List ℕ) → field_of (drop at text) ≡ cut x more rest → says x ≡ some b
-      → n ≡ at + (length x + 1) → r ≡ good b n more → Answers good bad says text at r n
-  unsaid : (more : Bool) → Unsaid says (field_of (drop at text)) → Reaches text at more n → r ≡ bad more
-      → Answers good bad says text at r n
+      → n ≡ at + (length x + 1) → r ≡ as_field (value b) more → Answers value says text at r n
+  unsaid : (more : Bool) → Unsaid says (field_of (drop at text)) → Reaches text at more n → r ≡ malformed more
+      → Answers value says text at r n
 
 -- ---- the fields of a text's first line
 
@@ -81,38 +93,29 @@ clipped v = cond (ltb v (2 ^ 64)) v 18446744073709551615
 abbrev pub fits_in : ℕ → Bool
 fits_in v = ltb v (2 ^ 64)
 
--- the answers for a number, and for none
-abbrev pub as_number : ℕ → ℕ → Bool → Number
-as_number v next more = Is (clipped v) (fits_in v) next more
-
-abbrev pub no_number : Bool → Number
-no_number true = Malformed
-no_number false = MalformedAtEnd
-
-abbrev pub ReadNumber : List ℕ → ℕ → Number → ℕ → Type 0
-ReadNumber = Answers as_number no_number number_of
-
--- ---- parts of the reader
-
--- the digits that say a number
-abbrev pub held : ℕ → Digits
+-- a number, and one that does not fit
+abbrev pub held : ℕ → Number
 held v = record { value = clipped v; fits = fits_in v }
 
--- digits that do not fit have the largest value
-abbrev pub Clipped : Digits → Type 0
-Clipped digits = digits.fits ≡ false → digits.value ≡ 18446744073709551615
+abbrev pub ReadNumber : List ℕ → ℕ → Result (Field Number) Malformed → ℕ → Type 0
+ReadNumber = Answers held number_of
+
+-- ---- parts of its reader
+
+-- the digit that is seen
+abbrev pub digit_seen : rust.Option ℕ → rust.Option ℕ
+digit_seen rust.None = rust.None
+digit_seen (rust.Some b) = cond (is_digit b) (rust.Some (b - 48)) rust.None
+
+-- a number that does not fit has the largest value
+abbrev pub Clipped : Number → Type 0
+Clipped number = number.fits ≡ false → number.value ≡ 18446744073709551615
 
 -- one digit more
-abbrev pub digit_after : Digits → ℕ → Digits
-digit_after digits d =
-    cond (digits.fits && ltb (digits.value * 10 + d) (2 ^ 64)) (record { value = digits.value * 10 + d; fits = true })
+abbrev pub digit_after : Number → ℕ → Number
+digit_after number d =
+    cond (number.fits && ltb (number.value * 10 + d) (2 ^ 64)) (record { value = number.value * 10 + d; fits = true })
     (record { value = 18446744073709551615; fits = false })
-
--- the end of a number's field, at this byte
-abbrev pub end_number : Digits → ℕ → ℕ → Number
-end_number digits end next =
-    cond (eqb end tab) (Is digits.value digits.fits next true)
-    (cond (eqb end line_feed) (Is digits.value digits.fits next false) Malformed)
 
 -- the number that x says after digits that say n, none after a leading zero
 abbrev pub more_of : ℕ → List ℕ → Option ℕ
@@ -120,5 +123,5 @@ more_of n [] = some n
 more_of n (b ∷ x) = cond (every is_digit (b ∷ x) && not (eqb n 0)) (some (value_after n (b ∷ x))) none
 
 -- the same of the field at a place
-abbrev pub MoreDigits : ℕ → List ℕ → ℕ → Number → ℕ → Type 0
-MoreDigits v = Answers as_number no_number (more_of v)
+abbrev pub MoreDigits : ℕ → List ℕ → ℕ → Result (Field Number) Malformed → ℕ → Type 0
+MoreDigits v = Answers held (more_of v)

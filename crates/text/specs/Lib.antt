@@ -6,3 +6,5 @@ pub mod Fields
 pub mod Lines
 pub mod Writing
 pub mod WritingLaws
+pub mod Writers
+pub mod WriterLaws

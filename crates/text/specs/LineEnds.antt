@@ -1,5 +1,5 @@
 -- Where the lines of a text end, and how far a reading has come in one.
-use Rattle.std.specs.Prelude.{ℕ, zero, suc, ◌+◌, ◌≤◌, ◌≡◌, Bool, cond, List, [], ◌∷◌, eqb, ltb, length, drop}
+use Rattle.std.specs.Prelude.{false, ℕ, zero, suc, ◌+◌, ◌≤◌, ◌≡◌, Bool, cond, List, [], ◌∷◌, eqb, ltb, length, drop, get_or, Option, Some, None}
 use Rattle.text.specs.Text.{line_feed}
 
 -- the bytes of a text's first n lines, with their line feeds
@@ -15,6 +15,15 @@ line_end text at = at + lines_size 1 (drop at text)
 -- what is seen past a text's end: no byte
 abbrev pub NONE : ℕ
 NONE = 256
+
+-- what a look sees: the byte there, or none past the end
+abbrev pub seen_at : List ℕ → ℕ → Option ℕ
+seen_at text at = cond (ltb at (length text)) (Some (get_or text at NONE)) None
+
+-- what is seen is a line feed
+abbrev pub is_line_feed : Option ℕ → Bool
+is_line_feed None = false
+is_line_feed (Some b) = eqb b line_feed
 
 -- the place after a look at this one: past the end there is no byte to look at
 abbrev pub after_look : List ℕ → ℕ → ℕ

@@ -1,175 +1,163 @@
-// Readers of fields: each takes a text and a place in it, looks at each byte once, for form and value together, and goes past the tab or
-// the line feed that ends the field. `look` is the only read of a byte of a text, and it alone raises `looks`, the count that is lent from
-// reader to reader: it is the place, as long as each byte before has been looked at once.
-ghost use Rattle.std.specs.Prelude.{◌≡◌, ◌≤◌, length, get_or};
-ghost use Rattle.text.specs.LineEnds.{line_end, after_look};
-ghost use Rattle.text.specs.Fields.{NONE, ReadNumber, Clipped, digit_after, end_number, MoreDigits};
+// Readers of fields: a cursor goes through a text, and looks at each byte once, for form and value together. Its fields are its own, and
+// `look` is the only read of a byte: the place is the number of looks so far.
+ghost use Rattle.std.specs.Prelude.{◌≡◌, ◌≤◌, not, length, leb};
+ghost use Rattle.text.specs.LineEnds.{line_end, after_look, seen_at, is_line_feed};
+ghost use Rattle.text.specs.Fields.{ended, ReadNumber, digit_seen, Clipped, digit_after};
 
-// A number's field as it was read: the place after its end, and whether a tab ended it, so that one more follows. A number of 2^64 or more
-// does not fit, and has the value 2^64 - 1. A malformed one is left at the byte that shows it: the line goes on, or has ended with that byte.
-#[derive(Clone, Copy)]
-pub enum Number {
-    Malformed,
-    MalformedAtEnd,
-    Is {
-        value: u64,
-        fits: bool,
-        next: usize,
-        more: bool,
-    },
+// A place in a text.
+#[derive(Drop)]
+pub struct Cursor<'a> {
+    text: &'a [u8],
+    at: usize,
+    ghost within: { at ≤ length text.now },
 }
 
-// The digits so far.
+// What a field says, and whether a tab ended it, so that one more follows: else a line feed did.
 #[derive(Clone, Copy)]
-struct Digits {
-    value: u64,
-    fits: bool,
+pub struct Field<T> {
+    pub value: T,
+    pub more: bool,
 }
 
-// What is seen past a text's end.
-const NONE: u64 = 256;
+// A field that is not of its form: it is left at the byte that shows it. The line goes on there, or has ended with that byte.
+#[derive(Clone, Copy, PartialEq, Eq)]
+pub struct Malformed {
+    pub goes_on: bool,
+}
 
-pub const TAB: u64 = 9;
+// A number of 2^64 or more does not fit, and has the value 2^64 - 1. An option would be no plainer: ranges are tested by the value alone, and
+// only of a seed it is asked whether it fits.
+#[derive(Clone, Copy)]
+pub struct Number {
+    pub value: u64,
+    pub fits: bool,
+}
 
-pub const LINE_FEED: u64 = 10;
-
-// The digits 0 and 9.
-const ZERO: u64 = 48;
-
-const NINE: u64 = 57;
-
-const LARGEST: u64 = 0xffff_ffff_ffff_ffff;
 // Below this, any digit can follow; this itself is followed by one up to 5.
-const SAFE: u64 = 1844674407370955161;
+const SAFE: u64 = u64::MAX / 10;
 
-fn wide(b: u8) -> u64
-    ensures { result ≡ b }
-{
-    b as u64
-}
-
-// Looks at the byte at a place, and counts the look.
-pub fn look(text: &[u8], at: usize, looks: &mut u64) -> u64
-    requires { looks.old ≡ at }
-    ensures byte { result ≡ get_or text.now at NONE }
-    ensures counted { looks.new ≡ after_look text.now at }
-{
-    if at < text.len() {
-        *looks += 1;
-        return wide(text[at]);
-    }
-    NONE
-}
-
-// Looks at what is left of a line, up to its end or that of the text.
-pub fn rest_of_line(text: &[u8], from: usize, looks: &mut u64)
-    requires { (from ≤ length text.now) × (looks.old ≡ from) }
-    ensures { looks.new ≡ line_end text.now from }
-{
-    let mut at = from;
-    while at < text.len() {
-        if look(text, at, looks) == LINE_FEED {
-            return;
+impl Malformed {
+    // What this byte shows.
+    pub fn shown_by(seen: Option<u8>) -> Malformed
+        ensures { result.goes_on ≡ not (is_line_feed seen) }
+    {
+        Malformed {
+            goes_on: seen != Some(b'\n'),
         }
-        at += 1;
+    }
+}
+
+impl<T: Copy> Field<T> {
+    // The field that says this, if it ends with this byte.
+    pub fn ended(value: T, seen: Option<u8>) -> Result<Field<T>, Malformed>
+        ensures { result ≡ ended value seen }
+    {
+        match seen {
+            Some(b'\t') => Ok(Field { value, more: true }),
+            Some(b'\n') => Ok(Field { value, more: false }),
+            _ => Err(Malformed { goes_on: true }),
+        }
+    }
+}
+
+// The digit that is seen.
+fn digit_of(seen: Option<u8>) -> Option<u64>
+    ensures { result ≡ digit_seen seen }
+{
+    match seen {
+        Some(b @ b'0'..=b'9') => Some((b - b'0') as u64),
+        _ => None,
     }
 }
 
 // One digit more.
-fn with_digit(digits: Digits, d: u64) -> Digits
+fn with_digit(number: Number, d: u64) -> Number
     requires digit { d ≤ 9 }
-    requires clipped { Clipped digits }
-    ensures { result ≡ digit_after digits d }
+    requires clipped { Clipped number }
+    ensures { result ≡ digit_after number d }
 {
-    let v = digits.value;
-    let fits = digits.fits;
     // nearly every number, and no division
-    if v < SAFE {
-        return Digits {
-            value: v * 10 + d,
-            fits,
+    if number.value < SAFE || (number.value == SAFE && d <= 5) {
+        return Number {
+            value: number.value * 10 + d,
+            fits: number.fits,
         };
     }
-    if v == SAFE {
-        if d <= 5 {
-            return Digits {
-                value: v * 10 + d,
-                fits,
-            };
-        }
-    }
-    Digits {
-        value: LARGEST,
+    Number {
+        value: u64::MAX,
         fits: false,
     }
 }
 
-// The end of a number's field, at this byte.
-fn end_number(digits: Digits, end: u64, next: usize) -> Number
-    ensures { result ≡ end_number digits end next }
-{
-    let value = digits.value;
-    let fits = digits.fits;
-    if end == TAB {
-        return Number::Is {
-            value,
-            fits,
-            next,
-            more: true,
-        };
+impl<'a> Cursor<'a> {
+    pub fn new(text: &'a [u8]) -> Cursor<'a>
+        ensures { (result.text.now ≡ text.now) × (result.at ≡ 0) }
+    {
+        Cursor { text, at: 0 }
     }
-    if end == LINE_FEED {
-        return Number::Is {
-            value,
-            fits,
-            next,
-            more: false,
-        };
-    }
-    Number::Malformed
-}
 
-// The rest of a number, after its first digit: none follows a leading zero.
-fn more_digits(text: &[u8], first: u64, from: usize, looks: &mut u64) -> Number
-    requires { (from ≤ length text.now) × (looks.old ≡ from) }
-    ensures { MoreDigits first text.now from result looks.new }
-{
-    let mut at = from;
-    let mut digits = Digits {
-        value: first,
-        fits: true,
-    };
-    loop {
-        let b = look(text, at, looks);
-        // a digit, the commonest byte, takes the fewest tests
-        if b < ZERO {
-            return end_number(digits, b, at + 1);
-        }
-        if NINE < b {
-            return Number::Malformed;
-        }
-        if first == 0 {
-            return Number::Malformed;
-        }
-        digits = with_digit(digits, b - ZERO);
-        at += 1;
+    // How many bytes have been looked at.
+    pub fn looks(&self) -> usize
+        ensures { result ≡ self.now.at }
+    {
+        self.at
     }
-}
 
-// A number: digits, no leading zero except 0 itself.
-pub fn read_number(text: &[u8], at: usize, looks: &mut u64) -> Number
-    requires { (at ≤ length text.now) × (looks.old ≡ at) }
-    ensures { ReadNumber text.now at result looks.new }
-{
-    let first = look(text, at, looks);
-    if first < ZERO {
-        if first == LINE_FEED {
-            return Number::MalformedAtEnd;
+    pub fn is_at_end(&self) -> bool
+        ensures { result ≡ leb (length self.now.text.now) self.now.at }
+    {
+        self.text.len() <= self.at
+    }
+
+    // Looks at the next byte, and goes past it.
+    pub fn look(&mut self) -> Option<u8>
+        ensures byte { result ≡ seen_at self.old.text.now self.old.at }
+        ensures counted { self.new.at ≡ after_look self.old.text.now self.old.at }
+        ensures text { self.new.text.now ≡ self.old.text.now }
+    {
+        if self.text.len() <= self.at {
+            return None;
         }
-        return Number::Malformed;
+        let byte = self.text[self.at];
+        self.at += 1;
+        Some(byte)
     }
-    if NINE < first {
-        return Number::Malformed;
+
+    // Looks at what is left of a line, up to its end or that of the text.
+    pub fn finish_line(&mut self)
+        ensures place { self.new.at ≡ line_end self.old.text.now self.old.at }
+        ensures text { self.new.text.now ≡ self.old.text.now }
+    {
+        while let Some(byte) = self.look() {
+            if byte == b'\n' {
+                return;
+            }
+        }
     }
-    more_digits(text, first - ZERO, at + 1, looks)
+
+    // A number: digits, no leading zero except 0 itself.
+    pub fn number(&mut self) -> Result<Field<Number>, Malformed>
+        ensures field { ReadNumber self.old.text.now self.old.at result self.new.at }
+        ensures text { self.new.text.now ≡ self.old.text.now }
+    {
+        let first = self.look();
+        let Some(leading) = digit_of(first) else {
+            return Err(Malformed::shown_by(first));
+        };
+        let mut number = Number {
+            value: leading,
+            fits: true,
+        };
+        // no `for`: where it ends, the byte that ends it is seen, and is judged too
+        loop {
+            let seen = self.look();
+            let Some(digit) = digit_of(seen) else {
+                return Field::ended(number, seen);
+            };
+            if leading == 0 {
+                return Err(Malformed { goes_on: true });
+            }
+            number = with_digit(number, digit);
+        }
+    }
 }

@@ -1,37 +1,43 @@
-// Bytes written into an array from a place on, as far as it reaches; each function answers the place after them.
-ghost use Rattle.std.specs.Prelude.{[], ◌∷◌};
+// Bytes written into an array from a place on, as far as it reaches. No `Display` prints here: contracts have each byte, and the place that
+// they come to where the array has ended, by which a result's length is known before a byte is written.
+ghost use Rattle.std.specs.Prelude.{◌≡◌, [], ◌∷◌};
 ghost use Rattle.text.specs.Writing.{plain, field, Ends, Wrote};
+ghost use Rattle.text.specs.Writers.{Writes};
 
-pub(crate) fn put_byte(byte: u8, out: &mut [u8], at: usize) -> usize
-    requires { Ends at (plain (byte ∷ [])) }
-    ensures { Wrote out.old at (plain (byte ∷ [])) result out.new }
-{
-    if out.len() <= at {
-        return at + 1;
-    }
-    out[at] = byte;
-    at + 1
+// The array, and the place of the next byte, which goes on where the array has ended.
+#[derive(Drop)]
+pub struct Writer<'a> {
+    pub out: &'a mut [u8],
+    pub at: usize,
 }
 
-// Bytes as they stand.
-pub fn put_bytes(bytes: &[u8], out: &mut [u8], at: usize) -> usize
-    requires { Ends at (plain bytes.now) }
-    ensures { Wrote out.old at (plain bytes.now) result out.new }
-{
-    let mut next = at;
-    let mut i: usize = 0;
-    while i < bytes.len() {
-        next = put_byte(bytes[i], out, next);
-        i += 1;
+impl<'a> Writer<'a> {
+    pub(crate) fn put_byte(&mut self, byte: u8)
+        requires { Ends self.old.at (plain (byte ∷ [])) }
+        ensures { Writes self.old (plain (byte ∷ [])) self.new }
+    {
+        if self.at < self.out.len() {
+            self.out[self.at] = byte;
+        }
+        self.at += 1;
     }
-    next
-}
 
-// A field, and the tab or the line feed after it.
-pub fn put_field(bytes: &[u8], end: u8, out: &mut [u8], at: usize) -> usize
-    requires { Ends at (field bytes.now end) }
-    ensures { Wrote out.old at (field bytes.now end) result out.new }
-{
-    let next = put_bytes(bytes, out, at);
-    put_byte(end, out, next)
+    // Bytes as they stand.
+    pub fn put_bytes(&mut self, bytes: &[u8])
+        requires { Ends self.old.at (plain bytes.now) }
+        ensures { Writes self.old (plain bytes.now) self.new }
+    {
+        for byte in bytes {
+            self.put_byte(*byte);
+        }
+    }
+
+    // A field, and the tab or the line feed after it.
+    pub fn put_field(&mut self, bytes: &[u8], end: u8)
+        requires { Ends self.old.at (field bytes.now end) }
+        ensures { Writes self.old (field bytes.now end) self.new }
+    {
+        self.put_bytes(bytes);
+        self.put_byte(end);
+    }
 }

@@ -4,3 +4,4 @@ pub mod Numbers
 pub mod Written
 pub mod Printing
 pub mod Cut
+pub mod Serving

@@ -1,18 +1,18 @@
 -- What a tool tells, by the paper's number and the values that go with it: `told` of each answer, `told_of` of a result.
-use Rattle.std.specs.Prelude.{ℕ, ◌≡◌, Bool, cond, List, [], ◌∷◌, length}
+use Rattle.std.specs.Prelude as rust
+use Rattle.std.specs.Prelude.{ℕ, Ok, Err, ◌≡◌, Bool, cond, List, [], ◌∷◌, length}
 use Rattle.std.proofs.Math.Path.{refl}
 use Rattle.std.proofs.Common.{ap, ◌∙◌}
 use Rattle.std.proofs.Math.Bool.{true, false}
 use Rattle.std.proofs.Math.Dec.{ltb}
+use Rattle.refusals.specs.declared.Refused.{Refused}
 use Rattle.reader.specs.Verdict.{Told, told_refusal}
-use Rattle.tools.specs.declared.Answer.{Answer}
-use Rattle.tools.specs.declared.Answer.TheVariants.{Writes, Refuses}
 use Rattle.tools.specs.Result.{Result, result, refusal, Outcome, written}
 
 -- 0 and the result's length; or a refusal
-abbrev pub told : Answer → Told
-told (Writes length) = record { number = 0; values = length ∷ [] }
-told (Refuses r line) = told_refusal r line
+abbrev pub told : rust.Result ℕ Refused → Told
+told (Ok length) = record { number = 0; values = length ∷ [] }
+told (Err f) = told_refusal f.refusal f.line
 
 -- what is to be told, with this output
 module _ (output : List ℕ) where

@@ -6,6 +6,7 @@ use std::io;
 use std::io::Read;
 
 // Reads an input into the first bytes of a room, until that is full or the input ends; how many bytes there are.
+// A rule of the project, no heap: the library's own loop, `read_to_end`, fills a Vec, and `read_exact` fails at an input that ends before.
 pub fn read_into<R: Read>(input: &mut R, room: &mut [u8]) -> io::Result<usize>
     ensures within { IfOk result (λ n. n ≤ length room.new) }
     ensures bytes { IfOk result (λ n. Consumes (R.remaining input.old) (R.remaining input.new) (take n room.new)) }

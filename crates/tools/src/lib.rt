@@ -1,5 +1,6 @@
-// What is common to the tools that make something of a plan: their answer, what their programs read and print, and the answer in numbers for
-// C. `specs/Result.antt` says what a tool answers and leaves in the output, `specs/Told.antt` which number and values of the paper that is.
+// What is common to the tools that make something of a plan: what their programs read and print, and their answer in numbers for C. A tool's
+// answer is how many bytes the result has that it wrote, or the refusal. `specs/Result.antt` says what a tool answers and leaves in the
+// output, `specs/Told.antt` which number and values of the paper that is.
 
 #![tactic(auto)]
 
@@ -8,18 +9,17 @@ ghost use Rattle.tools.specs.Numbers.{numbers};
 ghost use Rattle.tools.specs.Printing.{Shown};
 
 mod input;
+mod program;
 
 pub use input::read_into;
-use refusals::{Refusal, number_of, put_refusal};
+pub use program::serve;
+use refusals::Refused;
+use text::write::Writer;
 
-// How many bytes the result has that was written; or a refusal with its line.
-#[derive(Clone, Copy)]
-pub enum Answer {
-    Writes(usize),
-    Refuses(Refusal, u64),
-}
+// How long a plan's text may be, one that is read or written.
+pub const TEXT_SIZE: usize = 65536;
 
-// The same for C: the refusal's number, or 0 where there is a result, its line, and the length, which is 0 in a refusal.
+// The answer for C, in numbers as its interface needs them: the refusal's number, or 0 where there is a result, its line, and the length, which is 0 in a refusal.
 #[repr(C)]
 #[derive(Clone, Copy)]
 pub struct AnswerC {
@@ -28,29 +28,35 @@ pub struct AnswerC {
     pub length: u64,
 }
 
-pub fn in_numbers(answer: Answer) -> AnswerC
-    ensures { result ≡ numbers answer }
-{
-    match answer {
-        Answer::Writes(length) => AnswerC {
-            number: 0,
-            line: 0,
-            length: length as u64,
-        },
-        Answer::Refuses(refusal, line) => AnswerC {
-            number: number_of(refusal),
-            line,
-            length: 0,
-        },
+impl From<Result<usize, Refused>> for AnswerC {
+    ghost from_gives = { λ answer gives. gives ≡ numbers answer };
+
+    fn from(answer: Result<usize, Refused>) -> AnswerC {
+        match answer {
+            Ok(length) => AnswerC {
+                number: 0,
+                line: 0,
+                length: length as u64,
+            },
+            Err(refused) => AnswerC {
+                number: refused.refusal.into(),
+                line: refused.line,
+                length: 0,
+            },
+        }
     }
 }
 
 // Brings what a program prints to the front of the output, where a result stands already; how many bytes it has.
-pub fn show(answer: Answer, output: &mut [u8]) -> usize
+pub fn show(answer: Result<usize, Refused>, output: &mut [u8]) -> usize
     ensures { Shown answer output.old result output.new }
 {
     match answer {
-        Answer::Writes(length) => length,
-        Answer::Refuses(refusal, line) => put_refusal(refusal, line, output, 0),
+        Ok(length) => length,
+        Err(refused) => {
+            let mut to = Writer { out: output, at: 0 };
+            refused.put(&mut to);
+            to.at
+        }
     }
 }

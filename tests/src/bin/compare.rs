@@ -109,7 +109,7 @@ fn list<T: std::fmt::Display>(values: &[T], fill: Option<(usize, u64)>) -> Strin
 
 /// A refusal as the definitions say it.
 fn refuses(no: Refusal) -> String {
-    format!("Refuses {} {}", REFUSALS[no.number as usize - 1], no.line)
+    format!("refuses {} {}", REFUSALS[no.number as usize - 1], no.line)
 }
 
 /// An output as it was left.
@@ -160,8 +160,12 @@ fn made(seed: u64, name: &str, text: &[u8], tool: Tool, unfolds: &str) -> String
     let length = tool(text, &mut vec![0; text.len() + LONGEST_LINE]).unwrap_or(text.len());
     let mut output = vec![IN_OUTPUT; (length + rng.index(12)).saturating_sub(2)];
     let answer = match tool(text, &mut output) {
-        Ok(length) => format!("tools.Writes {length}"),
-        Err(no) => format!("tools.{}", refuses(no)),
+        Ok(length) => format!("Ok {length}"),
+        Err(no) => format!(
+            "refused_at {} {}",
+            REFUSALS[no.number as usize - 1],
+            no.line
+        ),
     };
     format!(
         "{name}-{seed} : converted (replicate {} {IN_OUTPUT}) ({name} ({}))\n    ≡ record {{ answer = {answer}; output = {} }}\nunfolding computed converted {unfolds}\n{name}-{seed} = refl\n\n",
@@ -177,7 +181,7 @@ fn theorem(seed: u64) -> String {
     let mut store = vec![IN_STORE; call.store];
     let mut output = vec![IN_OUTPUT; call.output];
     let answer = match run::run(&call.text, call.limit, &mut store, &mut output) {
-        Ok(done) => format!("Reports {} {}", done.picks, done.length),
+        Ok(done) => format!("reports {} {}", done.picks, done.length),
         Err(no) => refuses(no),
     };
     let zeros = store.iter().take_while(|&&n| n == 0).count();
@@ -220,19 +224,18 @@ fn chosen_among_equals(seed: u64) -> bool {
 }
 
 fn module(first: u64, count: u64) -> String {
-    let mut out = String::from(
-        "use Rattle.std.specs.Prelude.{◌≡◌, refl, [], ◌∷◌, ◌++◌, replicate}\n",
-    );
+    let mut out =
+        String::from("use Rattle.std.specs.Prelude.{◌≡◌, Ok, refl, [], ◌∷◌, ◌++◌, replicate}\n");
     let _ = writeln!(
         out,
         "use Rattle.refusals.specs.declared.Refusal.TheVariants.{{{}}}",
         REFUSALS.join(", ")
     );
-    out.push_str("use Rattle.play.specs.declared.Answer.TheVariants.{Reports, Refuses}\nuse Rattle.play.specs.Outcome.{written}\nuse Rattle.bench.specs.Answer.{check, run, played}\nuse Rattle.bench.specs.Computed.{computed}\n");
+    out.push_str("use Rattle.play.specs.Outcome.{reports, refuses, written}\nuse Rattle.bench.specs.Answer.{check, run, played}\nuse Rattle.bench.specs.Computed.{computed}\n");
     out.push_str(
-        "use Rattle.text.specs.LineEnds.{lines_size}\nuse Rattle.reader.specs.Verdict.{told}\n",
+        "use Rattle.text.specs.LineEnds.{lines_size}\nuse Rattle.reader.specs.Verdict.{told, refused_at}\n",
     );
-    out.push_str("use Rattle.tools.specs.declared.Answer.TheVariants as tools\nuse Rattle.tools.specs.Result.{written as converted}\nuse Rattle.convert.specs.Convert.{after_line, to_second, to_first}\n");
+    out.push_str("use Rattle.tools.specs.Result.{written as converted}\nuse Rattle.convert.specs.Convert.{after_line, to_second, to_first}\n");
     out.push_str("use Rattle.chain.specs.Longest.{chain_of}\nuse Rattle.chain.specs.Examples.{computed_chain}\n\n");
     for seed in first..first + count {
         out.push_str(&checked(seed));

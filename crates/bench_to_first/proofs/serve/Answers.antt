@@ -1,14 +1,12 @@
 -- `bench_to_first::serve` meets its contract: what it reads of a longer text is enough.
-use Rattle.std.proofs.Common.{rules, ap}
+use Rattle.std.proofs.Common.{ap}
 use Rattle.tools.specs.Result.{printed}
-use Rattle.tools.specs.Cut.{read_size, cut_alike}
-use Rattle.tools.proofs.Serving.{serves}
+use Rattle.tools.specs.Cut.{cut_alike}
 use Rattle.convert.specs.Convert.{in_first, to_first}
 use Rattle.bench_to_first.proofs.serve.Goals as goal
 
 pub returns : goal.returns
 unfolding to_first
 returns g c =
-    serves _ _ _ _ (λ text. printed (to_first text)) read_size _ _ _ (search rules) c.in_ok-size.ensures.front
+    c.serve.ensures (λ text. printed (to_first text)) (record { at = λ text lent left n e front. front.bytes })
     (λ text. ap printed (cut_alike in_first text))
-    c.answer-length.ensures.bytes c.write_all.ensures.bytes

@@ -1,5 +1,6 @@
 -- `convert::rewrite` meets its contract: by the lengths of text and output. Assumes nothing.
-use native.Mathlib.Omega.{arith}
+use Rattle.std.proofs.Common.{rules, arith, ap, ◌∙◌}
+use Rattle.tools.specs.Result.{outcome}
 use Rattle.convert.proofs.Rewriting.{too_long, too_short, whole}
 use Rattle.convert.proofs.rewrite.Goals as goal
 
@@ -15,6 +16,10 @@ returns-then-output-length c =
 
 pub returns : goal.returns
 returns c =
-    whole c.args.text.now c.args.workers c.args.own c.requires.1 _ c.workers_size.ensures.0
+    let first = c.put_workers.ensures.wrote in
+    let last = c.put_bytes.ensures in
+    let same = last.same ∙ first.same in
+    ap (outcome _) (search rules)
+    ∙ whole c.args.text.now c.args.workers c.args.own c.requires.1 _ c.workers_size.ensures.0
     c.args.output.now c.args.wanted _ c.workers_size-2.ensures.0 (omega arith) (omega arith)
-    c.put_workers-next.ensures.wrote c.put_bytes.ensures
+    first.wrote last.wrote

@@ -1,34 +1,36 @@
 -- `convert::to_first` meets its contract: by what is read of the text. Assumes nothing.
-use mathlib.Core.Path.{sym, ◌∙◌}
+use Rattle.std.specs.Prelude.{◌≡◌, Err}
+use Rattle.std.proofs.Common.{rules, sym, ap, ◌∙◌}
+use Rattle.tools.specs.Result.{outcome}
 use Rattle.tools.specs.Told.{and_told}
 use Rattle.convert.proofs.Answering.{first_refuses, has_own_line, first_writes, other_sizes}
 use Rattle.convert.proofs.to_first.Goals as goal
 
 pub rewrite-requires : goal.rewrite-requires
 rewrite-requires c =
-    let text = c.args.text.now in
-    has_own_line text c.outline-read.result c.outline-read.ensures c.in-Accepted.is
+    has_own_line c.args.text.now c.outline.result c.outline.ensures _ c.in_ok-plan.was
 
-pub returns-then-has_first_sizes : goal.returns-then-has_first_sizes
-returns-then-has_first_sizes c =
+pub returns-in_err-plan : goal.returns-in_err-plan
+returns-in_err-plan c =
+    let refused = c.in_err-plan.field-0.0 in
+    let same : c.from_residual.result ≡ Err refused = search rules in
     let w =
-    and_told c.args.output.now _ _
-    (first_writes c.args.text.now c.outline-read.result c.outline-read.ensures c.in-Accepted.is
-    c.args.output.now _ (sym c.has_first_sizes.ensures ∙ c.if-has_first_sizes.true) c.rewrite.ensures) in
+    and_told c.args.output.now _ _ (ap (λ a. outcome a c.args.output.now) same
+    ∙ first_refuses c.args.text.now c.outline.result c.outline.ensures c.args.output.now refused c.in_err-plan.was) in
     record { outcome = w.0; told = w.1 }
 
-pub returns-in-Refused : goal.returns-in-Refused
-returns-in-Refused c =
+pub returns-then-not-has_first_sizes : goal.returns-then-not-has_first_sizes
+returns-then-not-has_first_sizes c =
     let w =
     and_told c.args.output.now _ _
-    (first_refuses c.args.text.now c.outline-read.result c.outline-read.ensures c.args.output.now _ _
-    c.in-Refused.is) in
+    (other_sizes c.args.text.now c.outline.result c.outline.ensures _ c.in_ok-plan.was
+    c.args.output.now (sym c.has_first_sizes.ensures ∙ c.if-not-has_first_sizes.true)) in
     record { outcome = w.0; told = w.1 }
 
-pub returns-else-has_first_sizes : goal.returns-else-has_first_sizes
-returns-else-has_first_sizes c =
+pub returns : goal.returns
+returns c =
     let w =
     and_told c.args.output.now _ _
-    (other_sizes c.args.text.now c.outline-read.result c.outline-read.ensures c.in-Accepted.is
-    c.args.output.now (sym c.has_first_sizes.ensures ∙ c.if-has_first_sizes.false)) in
+    (first_writes c.args.text.now c.outline.result c.outline.ensures _ c.in_ok-plan.was
+    c.args.output.now _ (sym c.has_first_sizes.ensures ∙ c.if-not-has_first_sizes.false) c.rewrite.ensures) in
     record { outcome = w.0; told = w.1 }

@@ -1,27 +1,24 @@
 -- `find_leader` meets its contract.
-use Rattle.leader.proofs.Leading.{owner_told, due_told, nobody_told}
+use mathlib.Core.Path.{refl}
+use Rattle.leader.proofs.Leading.{told}
 use Rattle.leader.proofs.find_leader.Goals as goal
 
-pub returns-then-owner-gt0 : goal.returns-then-owner-gt0
-returns-then-owner-gt0 c =
-    let args = c.args in
-    let told =
-    owner_told args.n args.store.now args.wait.now args.tickets.now args.cells.now _ c.find_owner-owner.ensures
-    c.if-owner-gt0.true in
-    record { numbers = told.0; meaning = told.1 }
+pub returns-in-Some-clause-meaning : goal.returns-in-Some-clause-meaning
+returns-in-Some-clause-meaning c =
+    let x = c.args in
+    told x.n x.store.now x.wait.now x.tickets.now x.cells.now _
+    (λ head tail registrations. rw (← c.in-Some.ensures) refl)
 
-pub returns-then-due-gt0 : goal.returns-then-due-gt0
-returns-then-due-gt0 c =
-    let args = c.args in
-    let told =
-    due_told args.n args.store.now args.wait.now args.tickets.now args.cells.now _ c.find_owner-owner.ensures
-    c.if-owner-gt0.false _ c.find_due-due.ensures c.if-due-gt0.true in
-    record { numbers = told.0; meaning = told.1 }
+pub returns-in-Some-find_due-clause-meaning : goal.returns-in-Some-find_due-clause-meaning
+returns-in-Some-find_due-clause-meaning c =
+    let x = c.args in
+    told x.n x.store.now x.wait.now x.tickets.now x.cells.now _
+    (λ head tail registrations.
+    rw (← c.in_default.ensures, ← c.in-Some-find_due.ensures head tail registrations) refl)
 
-pub returns : goal.returns
-returns c =
-    let args = c.args in
-    let told =
-    nobody_told args.n args.store.now args.wait.now args.tickets.now args.cells.now _ c.find_owner-owner.ensures
-    c.if-owner-gt0.false _ c.find_due-due.ensures c.if-due-gt0.false in
-    record { numbers = told.0; meaning = told.1 }
+pub returns-in-None-clause-meaning : goal.returns-in-None-clause-meaning
+returns-in-None-clause-meaning c =
+    let x = c.args in
+    told x.n x.store.now x.wait.now x.tickets.now x.cells.now _
+    (λ head tail registrations.
+    rw (← c.in_default.ensures, ← c.in-None.ensures head tail registrations) refl)

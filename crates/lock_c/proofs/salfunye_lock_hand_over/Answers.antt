@@ -1,28 +1,11 @@
--- `lock_c::salfunye_lock_hand_over` meets its contract.
+-- `lock_c::salfunye_lock_hand_over` meets its contract where it hands over.
 use mathlib.Core.Path.{refl, ap, ◌∙◌}
 use mathlib.Core.List.{[]}
 use native.Mathlib.Omega.{arith}
 use Rattle.lock.specs.Lock.{Told}
 use Rattle.lock.proofs.Promise.{told_by}
-use Rattle.lock_c.specs.Answered.{accepted, refused}
-use borrow.Author.Rules.{rules}
+use Rattle.lock_c.specs.Answered.{accepted}
 use Rattle.lock_c.proofs.salfunye_lock_hand_over.Goals as goal
-
-pub returns-then-slots-eq0 : goal.returns-then-slots-eq0
-returns-then-slots-eq0 c =
-    refused (λ f. omega arith) (search rules)
-
-pub returns-then-wait-slots : goal.returns-then-wait-slots
-returns-then-wait-slots c =
-    refused (λ f. omega arith) (search rules)
-
-pub returns-then-registrations-slots : goal.returns-then-registrations-slots
-returns-then-registrations-slots c =
-    refused (λ f. omega arith) (search rules)
-
-pub returns-then-tail-eq-MOST : goal.returns-then-tail-eq-MOST
-returns-then-tail-eq-MOST c =
-    refused (λ f. omega arith) (search rules)
 
 pub returns : goal.returns
 returns c =
@@ -34,7 +17,7 @@ returns c =
       handed.ends.0 ∙ ends.0,
       rw ends.1 at handed.ends.1,
       λ tickets tasks.
-          rw (ap (λ (x : Told). x.let_in) (rw (ends.0, ends.1) at (told tickets tasks))) at c.front_answer-let_in.ensures,
+          rw (ap (λ (x : Told). x.let_in) (rw (ends.0, ends.1) at (told tickets tasks))) at c.from-let_in.ensures,
       ap (λ (x : Told). x.by) (told [] []) ∙ told_by _ _ _,
       rw ends.1 at handed.waits,
     )

@@ -8,10 +8,6 @@ pub slice_bounds-go-end-2 : goal.slice_bounds-go-end-2
 slice_bounds-go-end-2 c =
     sym (station_long c.args.own.now c.requires)
 
-pub go-requires : goal.go-requires
-go-requires c =
-    station_long c.args.own.now c.requires
-
 pub returns : goal.returns
 returns c =
     gone c.args.own.now c.go.new.own c.args.place c.args.number c.requires c.go.auto.own

@@ -9,10 +9,6 @@ pub slice_bounds-wait_with-end-2 : goal.slice_bounds-wait_with-end-2
 slice_bounds-wait_with-end-2 c =
     sym (station_long c.args.own.now c.requires)
 
-pub wait_with-requires : goal.wait_with-requires
-wait_with-requires c =
-    station_long c.args.own.now c.requires
-
 pub returns : goal.returns
 returns c =
     let own = c.args.own.now in

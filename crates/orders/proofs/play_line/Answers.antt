@@ -1,11 +1,7 @@
-use Prim.Native.Nat.{◌-◌}
-use mathlib.Core.Path.{◌≡◌, sym, ◌∙◌}
+use mathlib.Core.Path.{sym, ◌∙◌}
 use native.Mathlib.Omega.{arith}
-use Rattle.machine.specs.State.{Setup, State}
-use Rattle.machine.specs.Step.{finished}
-use Rattle.steps.specs.Memory.{share, Memory, Holds}
-use Rattle.scheduler.specs.Lent.{memory}
-use Rattle.orders.specs.Played.{LineAble}
+use Rattle.steps.specs.Memory.{share}
+use Rattle.scheduler.specs.Lent.{memory_of}
 use Rattle.orders.proofs.Playing.{goes_start, able_formed, able_fits, able_counts, still_able}
 use Rattle.orders.proofs.Playing.{comes_full, comes_finished, goes_pick}
 use Rattle.orders.proofs.play_line.Goals as goal
@@ -13,11 +9,11 @@ use Rattle.orders.proofs.play_line.Goals as goal
 pub loop-n-init : goal.loop-n-init
 loop-n-init c = goes_start
 
-pub returns-then-is_finished : goal.returns-then-is_finished
-returns-then-is_finished c =
+pub returns-else-not-is_finished : goal.returns-else-not-is_finished
+returns-else-not-is_finished c =
     let x = c.loop-n in
-    let m = memory x.n x.wait x.registrations x.tickets x.cells x.device x.rows x.accesses in
-    let comes = comes_finished x.invariant (λ k s h. sym c.if-is_finished.true ∙ c.is_finished.ensures.meaning m k s (share x.store) h) in
+    let m = memory_of x.n x.arrays in
+    let comes = comes_finished x.invariant (λ k s h. sym c.if-not-is_finished.false ∙ c.is_finished.ensures.meaning m k s (share x.store) h) in
     record { held = comes.0; later = comes.1 }
 
 pub draw-drawn-requires : goal.draw-drawn-requires
@@ -28,7 +24,7 @@ pick-n-requires c =
     let a = still_able c.loop-n.invariant c.requires in
     record {
       room = a.room;
-      long = (a.c, a.s, a.long, a.holds, able_fits a c.loop-n-test.true c.draw-drawn.result c.draw-drawn.ensures);
+      held = (a.c, a.s, a.holds, able_fits a c.loop-n-test.true c.draw-drawn.result c.draw-drawn.ensures);
     }
 
 pub loop-n-smaller : goal.loop-n-smaller
@@ -42,25 +38,15 @@ loop-n-smaller c =
 pub loop-n-preserved : goal.loop-n-preserved
 loop-n-preserved c =
     let x = c.loop-n in
-    let m = memory x.n x.wait x.registrations x.tickets x.cells x.device x.rows x.accesses in
+    let m = memory_of x.n x.arrays in
     let k = c.pick-n.auto in
     goes_pick x.invariant c.loop-n-test.true
-    (λ k s h. sym c.if-is_finished.false ∙ c.is_finished.ensures.meaning m k s (share x.store) h)
+    (λ k s h. sym c.if-not-is_finished.true ∙ c.is_finished.ensures.meaning m k s (share x.store) h)
     c.draw-drawn.result c.draw-drawn.ensures
-    (record {
-      wait = k.wait;
-      registrations = k.registrations;
-      tickets = k.tickets;
-      cells = k.cells;
-      device = k.device;
-      rows = k.rows;
-      accesses = k.accesses;
-      size = k.store;
-      later = c.pick-n.ensures.later;
-    })
+    (record { size = k.store; later = c.pick-n.ensures.later })
     c.pick-n.ensures.held
 
-pub returns : goal.returns
-returns c =
+pub returns-after-loop-n : goal.returns-after-loop-n
+returns-after-loop-n c =
     let comes = comes_full c.loop-n.invariant c.loop-n-test.false in
     record { held = comes.0; later = comes.1 }

@@ -1,20 +1,12 @@
--- `picks::count_of` meets its contract: rounds have a pick for each worker.
--- Assumes nothing.
-use native.Mathlib.Omega.{arith}
-use Rattle.picks.specs.LineLaws.{rounds_count, others_count, rounds_fit}
+-- `count_of` meets its contract.
+use mathlib.Core.Path.{sym}
+use Rattle.plan.specs.declared.order.Order.TheVariants.{Rounds as rounds, Seeded as seeded}
+use Rattle.picks.specs.LineLaws.{count_picks}
 use Rattle.picks.proofs.count_of.Goals as goal
 
-pub overflow_mul-result : goal.overflow_mul-result
-overflow_mul-result c =
-    let (some_workers, few_workers, (order, row)) = c.requires in
-    record {
-      fits = omega (arith, rounds_fit c.args.workers c.args.order some_workers few_workers c.if-order-eq-IN_TURN.true order row);
-    }
+pub returns-in-Rounds : goal.returns-in-Rounds
+returns-in-Rounds c = rw c.in-Rounds.is (sym (count_picks c.args.workers (rounds c.in-Rounds.count) c.requires.0))
 
-pub returns-then-order-eq-IN_TURN : goal.returns-then-order-eq-IN_TURN
-returns-then-order-eq-IN_TURN c =
-    rounds_count c.args.workers c.args.order c.requires.0 c.requires.1 c.if-order-eq-IN_TURN.true
-
-pub returns : goal.returns
-returns c =
-    others_count c.args.workers c.args.order c.requires.0 c.requires.1 c.if-order-eq-IN_TURN.false
+pub returns-in-Seeded : goal.returns-in-Seeded
+returns-in-Seeded c =
+    rw c.in-Seeded.is (sym (count_picks c.args.workers (seeded c.in-Seeded.seed c.in-Seeded.count) c.requires.0))

@@ -1,15 +1,13 @@
--- `picks::draw` meets its contract: by the kind of the source.
--- Assumes nothing.
-use Rattle.picks.specs.SourceLaws.{draws_step, draws_seeded}
+-- `draw` meets its contract: by the kind of the source.
+use Rattle.picks.specs.SourceLaws.{draws_turn, draws_seeded}
 use Rattle.picks.proofs.draw.Goals as goal
 
-pub returns-then-kind-lt-SEEDED : goal.returns-then-kind-lt-SEEDED
-returns-then-kind-lt-SEEDED c =
-    let next = c.next_in_turn in
-    draws_step c.args.workers c.args.source c.requires c.if-kind-lt-SEEDED.true next.result next.ensures.0 next.ensures.1
+pub returns-in-InTurn : goal.returns-in-InTurn
+returns-in-InTurn c =
+    let low = rw c.in-InTurn.is at c.requires in
+    rw (c.in-InTurn.is, c.next_in_turn.ensures) (draws_turn c.args.workers _ low)
 
-pub returns : goal.returns
-returns c =
-    let state = c.next_state-state in
-    draws_seeded c.args.workers c.args.source c.requires c.if-kind-lt-SEEDED.false
-    state.result c.seeded_worker.result state.ensures c.seeded_worker.ensures
+pub returns-in-Seeded : goal.returns-in-Seeded
+returns-in-Seeded c =
+    let some = rw c.in-Seeded.is at c.requires in
+    rw (c.in-Seeded.is, c.seeded_worker.ensures, c.next_state-state.ensures) (draws_seeded c.args.workers _ some)

@@ -1,5 +1,5 @@
 -- `reader::outline` meets its contract: nothing is lent to `read`. Assumes nothing.
-use mathlib.Core.List.{[]}
+use Rattle.std.proofs.Common.{[]}
 use Rattle.plan.specs.Reading.{reading}
 use Rattle.reader.specs.Verdict.{lent}
 use Rattle.reader.proofs.Turns.{gives_outlined}

@@ -11,8 +11,8 @@ use Rattle.steps.proofs.create_step.Goals as goal
 pub slice_bounds-create-end : goal.slice_bounds-create-end
 slice_bounds-create-end c = omega (arith, own_long c.requires.0.1)
 
-pub create-next-requires : goal.create-next-requires
-create-next-requires c =
+pub create-tally-requires : goal.create-tally-requires
+create-tally-requires c =
     let ((m, a), at, stand, mail, adds, more) = c.requires in
     let own = c.args.own.now in
     let lent = part_lent own (own_long a) in
@@ -24,4 +24,4 @@ returns c m setup s shares lent long h fit =
     let a : Able (with_tasks m x.n x.rows.now x.accesses.now) x.own.now 0 =
     record { c = setup; s = s; shares = shares; lent = lent; long = long; holds = h; fit = fit } in
     let (_, at, stand, mail, adds, more) = c.requires in
-    create_acts a at stand mail refl adds more _ _ _ _ (c.create-next.ensures x.n.picks 0)
+    create_acts a at stand mail refl adds more _ _ _ _ (c.create-tally.ensures x.n.picks 0)

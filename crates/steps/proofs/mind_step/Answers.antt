@@ -10,8 +10,8 @@ use Rattle.steps.proofs.mind_step.Goals as goal
 pub slice_bounds-mind-end : goal.slice_bounds-mind-end
 slice_bounds-mind-end c = omega (arith, own_long c.requires.0.1)
 
-pub mind-next-requires : goal.mind-next-requires
-mind-next-requires c =
+pub mind-tally-requires : goal.mind-tally-requires
+mind-tally-requires c =
     let ((m, a), at, has) = c.requires in
     let own = c.args.own.now in
     let lent = part_lent own (own_long a) in
@@ -23,4 +23,4 @@ returns c m setup s shares lent long h fit =
     let a : Able (with_tasks m x.n x.rows.now x.accesses.now) x.own.now x.w =
     record { c = setup; s = s; shares = shares; lent = lent; long = long; holds = h; fit = fit } in
     let (_, at, has) = c.requires in
-    mind_acts a at has _ _ _ _ (c.mind-next.ensures x.w)
+    mind_acts a at has _ _ _ _ (c.mind-tally.ensures x.w)

@@ -10,7 +10,8 @@ use Rattle.std.proofs.Math.ListN.{get_or-append}
 use borrow.Author.Tests.{eqb-true, eqb-false, ltb-true, ltb-false, not-true, not-false}
 use Rattle.runs.specs.Update.{same, by_order}
 use Rattle.runs.specs.Every.{every}
-use Rattle.plan.specs.Plan.{Access, Task}
+use Rattle.plan.specs.Plan.{Task}
+use Rattle.plan.specs.declared.access.Access.{Access}
 use Rattle.plan.specs.Line.{repeats}
 use Rattle.plan.specs.Accepted.{Each}
 use Rattle.plan.proofs.Accepted.{every_each}

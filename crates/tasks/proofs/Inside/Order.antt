@@ -5,7 +5,8 @@ use Rattle.std.proofs.Math.Option.{Option, none, some}
 use Rattle.std.proofs.lemmas.Bool.{not-true}
 use Rattle.runs.specs.Update.{same, order}
 use Rattle.runs.specs.Every.{every}
-use Rattle.plan.specs.Plan.{Access, Task}
+use Rattle.plan.specs.Plan.{Task}
+use Rattle.plan.specs.declared.access.Access.{Access}
 use Rattle.plan.specs.Chains.{conflict}
 use Rattle.tasks.specs.Accesses.{no_access, task_of, task_at, access_at, first, reader, prev, total, addr}
 use Rattle.tasks.specs.Flags.{satisfied}

@@ -2,14 +2,14 @@
 use Rattle.bench_run.proofs.Prints.{reports, refuses}
 use Rattle.bench_run.proofs.answer.answer.Goals as goal
 
-pub returns-in-Reports : goal.returns-in-Reports
-returns-in-Reports c =
+pub returns-in-Ok : goal.returns-in-Ok
+returns-in-Ok c =
     let whole = reports c.args.store.now c.args.output.now c.args.text.now c.requires.0 c.requires.1 _ _ _
-    c.run-ran.ensures.outcome _ _ c.in-Reports.is in
+    c.run-ran.ensures.outcome _ c.in-Ok.is in
     record { store = whole.0; length = whole.1.0; bytes = whole.1.1.0; later = whole.1.1.1 }
 
-pub returns-in-Refuses : goal.returns-in-Refuses
-returns-in-Refuses c =
+pub returns-in-Err : goal.returns-in-Err
+returns-in-Err c =
     let whole = refuses c.args.store.now c.args.output.now c.args.text.now c.requires.0 c.requires.1 _ _ _
-    c.run-ran.ensures.outcome _ _ c.in-Refuses.is _ _ c.put_refusal.ensures.0 c.put_refusal.ensures.1 in
+    c.run-ran.ensures.outcome _ c.in-Err.is _ _ c.show.ensures.0 c.show.ensures.1 in
     record { store = whole.0; length = whole.1.0; bytes = whole.1.1.0; later = whole.1.1.1 }

@@ -1,8 +1,5 @@
 -- `find_first` meets its contract. Assumes nothing.
-use Prim.Native.Nat.{ℕ, ◌-◌, ◌≤◌}
-use mathlib.Core.Path.{◌≡◌}
-use mathlib.Core.List.{List}
-use lib.ListN.{length}
+use Rattle.std.proofs.Common.{◌≡◌, ◌<◌, List, length}
 use Rattle.plan.specs.Plan.{Task}
 use Rattle.chain.specs.Links.{Found, Known}
 use Rattle.chain.proofs.Scan.{Upto, There}
@@ -10,9 +7,8 @@ use Rattle.chain.proofs.link.find_first.Given as goal
 
 abbrev pub invariant-loop-j : goal.invariant-loop-j
 invariant-loop-j l =
-    (l.j ≤ l.n)
-    × ((ts : List Task) (nexts : List ℕ) → l.n ≡ length ts → Known ts l.sums nexts 0
-    → Found ts nexts (Upto ts (There ts) ⊥ l.j) l.first.sum l.first.next)
-
-abbrev pub decreases-loop-j : goal.decreases-loop-j
-decreases-loop-j l = l.n - l.j
+    record {
+      none : l.j ≡ 0 → l.first ≡ record { sum = 0; next = 0 };
+      found : (ts : List Task) → length l.links ≡ length ts → Known ts l.links 0 → 0 < l.j
+          → Found ts l.links (Upto ts (There ts) ⊥ l.j) l.first.sum l.first.next;
+    }

@@ -1,6 +1,6 @@
 -- `find_next` meets its contract. Assumes nothing.
-use Prim.Native.Nat.{ℕ, suc, ◌-◌, ◌≤◌, ◌<◌}
-use mathlib.Core.List.{List}
+use Rattle.std.proofs.Common.{◌<◌, List}
+use Rattle.std.specs.Prelude.{suc}
 use Rattle.plan.specs.Plan.{Task}
 use Rattle.chain.specs.Links.{Kept, Found, Known}
 use Rattle.chain.proofs.Scan.{Upto, Joins}
@@ -9,9 +9,5 @@ use Rattle.chain.proofs.link.find_next.Given as goal
 abbrev pub invariant-loop-j : goal.invariant-loop-j
 invariant-loop-j l =
     (l.i < l.j)
-    × (l.j ≤ l.n)
-    × ((ts : List Task) (nexts : List ℕ) → Kept l.rows l.n ts → Known ts l.sums nexts (suc l.i)
-    → Found ts nexts (Upto ts (Joins ts l.i) (Unit {0}) l.j) l.found.sum l.found.next)
-
-abbrev pub decreases-loop-j : goal.decreases-loop-j
-decreases-loop-j l = l.n - l.j
+    × ((ts : List Task) → Kept l.rows ts → Known ts l.links (suc l.i)
+    → Found ts l.links (Upto ts (Joins ts l.i) (Unit {0}) l.j) l.found.sum l.found.next)

@@ -1,5 +1,4 @@
 -- `deliver::pass_on` meets its contract: one message, where READ or WRITE passes on.
-use native.Mathlib.Omega.{arith}
 use mathlib.Core.Path.{refl}
 use mathlib.Core.List.{append-nil}
 use Rattle.duties.proofs.Delivering.{passed_none, passed_one}
@@ -9,10 +8,6 @@ pub returns-then-passes-eq0 : goal.returns-then-passes-eq0
 returns-then-passes-eq0 c ts e f reader p mail adds h to is_reader is =
     let none = passed_none ts c.args.sender e f reader _ is_reader is c.if-passes-eq0.true in
     rw (none, append-nil) (h, refl)
-
-pub post-requires : goal.post-requires
-post-requires c =
-    (c.requires.0, c.requires.1, c.requires.2 (omega (arith, c.if-passes-eq0.false)))
 
 pub returns : goal.returns
 returns c ts e f reader p mail adds h to is_reader is =

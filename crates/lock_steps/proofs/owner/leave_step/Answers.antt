@@ -8,11 +8,6 @@ pub go_to-requires : goal.go_to-requires
 go_to-requires c =
     own_long c.requires.0.1
 
-pub hand_on-requires : goal.hand_on-requires
-hand_on-requires c =
-    let (m, a) = c.requires.0 in
-    (m, _, a)
-
 pub returns : goal.returns
 returns c m =
     let hand = c.hand_on in

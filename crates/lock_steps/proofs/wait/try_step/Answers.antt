@@ -1,13 +1,9 @@
 -- `wait::try_step` meets its contract.
 use Rattle.steps.proofs.Acting.{own_long}
-use Rattle.lock_steps.proofs.FromLock.{head_fits, frees}
+use Rattle.lock_steps.proofs.FromLock.{frees}
 use Rattle.lock_steps.proofs.Stepping.{acting}
 use Rattle.lock_steps.proofs.Waiting.{win_acts, fail_acts}
 use Rattle.lock_steps.proofs.wait.try_step.Goals as goal
-
-pub take_ticket-taken-requires : goal.take_ticket-taken-requires
-take_ticket-taken-requires c =
-    head_fits c.requires.0.1
 
 pub go_to-requires : goal.go_to-requires
 go_to-requires c =

@@ -15,7 +15,8 @@ bounds-own-at-3 c =
 
 pub returns : goal.returns
 returns c =
-    record {
+    rw c.code_of.ensures
+    (record {
       numbers = refl;
       meaning = λ p mail adds m h is. stored_post h c.requires.2 c.args.to c.args.flags c.args.sender m is;
-    }
+    })

@@ -10,4 +10,4 @@ overflow_sub-own c =
 
 pub returns : goal.returns
 returns c =
-    rw (still c.args.own.now layout.mail_at _ layout.mail_count refl) record { numbers = (refl, refl); meaning = λ p m mail adds h. stored_take_mail h }
+    rw (c.coded_by.ensures, still c.args.own.now layout.mail_at _ layout.mail_count refl) record { numbers = (refl, refl); meaning = λ p m mail adds h. stored_take_mail h }

@@ -1,61 +1,41 @@
-use Rattle.std.proofs.Common.{◌≡◌, ◌+◌, ◌-◌, ◌<◌, true, length, get_or, sym, ◌∙◌, arith}
-use Rattle.text.specs.LineEnds.{NONE}
+use Rattle.std.proofs.Common.{sym, refl, ◌∙◌, arith}
 use Rattle.text.proofs.LineEnds.{look_within}
-use Rattle.plan.specs.Line.{is_label_byte}
-use Rattle.plan.proofs.Fields.{label_whole, label_end, label_within, label_on}
+use Rattle.plan.proofs.Fields.{label_whole, label_end, label_bad, label_on, label_here, size_fits, size_unfit}
 use Rattle.plan.proofs.field.read_label.Goals as goal
 
--- the byte is a label's
-label-byte : (c : goal.Else-not-is_label_byte)
-    → is_label_byte (get_or c.args.text.now c.loop-from.at NONE)
-    ≡ true
-label-byte c = rw c.look-b.ensures.byte at (sym c.is_label_byte.ensures ∙ c.if-not-is_label_byte.false)
+pub loop-seen-init : goal.loop-seen-init
+loop-seen-init c =
+    let self = c.args.cursor.now in
+    (omega arith, refl, λ r n so. label_whole self.text.now self.at so)
 
-in_text : (c : goal.Else-not-is_label_byte)
-    → c.loop-from.at < length c.args.text.now
-in_text c =
-    label_within c.args.text.now c.loop-from.at (label-byte c)
+pub returns-then-len-lt1-clause-field : goal.returns-then-len-lt1-clause-field
+returns-then-len-lt1-clause-field c =
+    let l = c.loop-seen in
+    let seen = c.look-seen.ensures in
+    rw seen.counted
+    (l.invariant.2 _ _
+    (label_bad l.len l.cursor.text.now l.cursor.at l.cursor.within
+    (rw seen.byte at (sym c.is_label_byte.ensures ∙ c.if-not-is_label_byte.true)) (size_unfit l.len c.then-len-lt1.either)
+    (rw seen.byte at c.shown_by.ensures)))
 
-pub loop-from-init : goal.loop-from-init
-loop-from-init c =
-    let from = c.args.from in
-    let z : from - from ≡ 0 = omega arith in
-    (c.requires.1, omega arith, c.requires.0, λ r n so. label_whole c.args.text.now from (rw z at so))
+pub returns-then-not-is_label_byte-clause-field : goal.returns-then-not-is_label_byte-clause-field
+returns-then-not-is_label_byte-clause-field c =
+    let l = c.loop-seen in
+    let seen = c.look-seen.ensures in
+    rw seen.counted
+    (l.invariant.2 _ _
+    (label_end l.len l.cursor.text.now l.cursor.at l.cursor.within
+    (rw seen.byte at (sym c.is_label_byte.ensures ∙ c.if-not-is_label_byte.true)) (size_fits l.len (omega arith) (omega arith))
+    (rw seen.byte at c.ended.ensures)))
 
-pub overflow_sub-at : goal.overflow_sub-at
-overflow_sub-at c =
-    c.loop-from.invariant.1
-
-pub overflow_add-at : goal.overflow_add-at
-overflow_add-at c =
-    omega (arith, c.loop-from.invariant.2)
-
-pub returns-then-not-is_label_byte : goal.returns-then-not-is_label_byte
-returns-then-not-is_label_byte c =
-    let l = c.loop-from in
-    let start = c.args in
-    let seen = c.look-b.ensures in
-    let other = sym c.is_label_byte.ensures ∙ c.if-not-is_label_byte.true in
-    rw seen.counted (l.invariant.3 _ _
-    (label_end (l.at - start.from) start.text.now l.at l.invariant.2 (rw seen.byte at other) (rw seen.byte at c.end_label.ensures)))
-
-pub overflow_add-at-in-loop-from : goal.overflow_add-at-in-loop-from
-overflow_add-at-in-loop-from c =
-    omega (arith, in_text c)
-
-pub loop-from-smaller : goal.loop-from-smaller
-loop-from-smaller c =
-    omega (arith, in_text c)
-
-pub loop-from-preserved : goal.loop-from-preserved
-loop-from-preserved c =
-    let l = c.loop-from in
-    let start = c.args in
-    let text = start.text.now in
-    let here = in_text c in
-    let q : l.at + 1 - start.from ≡ l.at - start.from + 1 = omega (arith, l.invariant.1) in (
-      c.look-b.ensures.counted ∙ look_within text l.at here,
-      omega (arith, l.invariant.1),
-      omega (arith, here),
-      λ r n so. l.invariant.3 r n (label_on (l.at - start.from) text l.at l.invariant.2 (label-byte c) (rw q at so)),
+pub loop-seen-preserved : goal.loop-seen-preserved
+loop-seen-preserved c =
+    let l = c.loop-seen in
+    let seen = c.look-seen.ensures in
+    let byte = rw seen.byte at (sym c.is_label_byte.ensures ∙ c.if-not-is_label_byte.false) in
+    let next = seen.counted ∙ look_within l.cursor.text.now l.cursor.at (label_here l.cursor.text.now l.cursor.at byte) in (
+      omega (arith, next, l.invariant.0),
+      seen.text ∙ l.invariant.1,
+      λ r n so.
+          l.invariant.2 r n (label_on l.len l.cursor.text.now l.cursor.at l.cursor.within byte (rw (seen.counted, seen.text) at so)),
     )

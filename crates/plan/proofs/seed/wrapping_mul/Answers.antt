@@ -1,6 +1,5 @@
 -- `plan::seed::wrapping_mul` meets its contract: each product of halves fits, and the law on halves gives the rest.
--- Assumes nothing.
-use Rattle.std.proofs.Common.{◌∙◌, rules}
+use Rattle.std.proofs.Common.{rules}
 use Rattle.plan.proofs.Halves.{halves_fit, by_halves}
 use Rattle.plan.proofs.seed.wrapping_mul.Goals as goal
 
@@ -18,4 +17,4 @@ overflow_mul-cross-2 c =
 
 pub returns : goal.returns
 returns c =
-    c.wrapping_add_u64.ensures.value ∙ by_halves 4294967296 c.args.a c.args.b
+    by_halves 4294967296 c.args.a c.args.b

@@ -46,6 +46,7 @@ returns-then-is_set c =
     let first : First (λ j. is_set (mask_at x.n x.device.now j) x.w) x.n.ready l.k =
     record { within = l.invariant.0; before = l.invariant.1; found = λ h. sym (set_is c.args.n c.args.device.now c.args.w c.loop-k.k c.task_at.ensures.numbers c.is_set.ensures) ∙ c.if-is_set.true } in
     record {
+      inside = c.loop-k-test.true;
       numbers = first;
       meaning = falls x.n x.device.now x.w l.k first;
     }
@@ -59,9 +60,11 @@ pub returns : goal.returns
 returns c =
     let l = c.loop-k in
     let x = c.args in
-    let first : First (λ j. is_set (mask_at x.n x.device.now j) x.w) x.n.ready l.k =
-    record { within = l.invariant.0; before = l.invariant.1; found = λ h. absurd (omega (arith, c.loop-k-test.false)) } in
+    let all : l.k ≡ x.n.ready = omega (arith, l.invariant.0, c.loop-k-test.false) in
+    let first : First (λ j. is_set (mask_at x.n x.device.now j) x.w) x.n.ready x.n.ready =
+    record { within = omega arith; before = rw all at l.invariant.1; found = λ h. absurd (omega arith) } in
     record {
+      inside = tt;
       numbers = first;
-      meaning = falls x.n x.device.now x.w l.k first;
+      meaning = falls x.n x.device.now x.w x.n.ready first;
     }

@@ -1,4 +1,5 @@
 use native.Mathlib.Omega.{arith}
+use Prim.Native.Nat.{◌+◌, ◌-◌}
 use mathlib.Core.Path.{◌≡◌, refl, sym, ap, ◌∙◌}
 use lib.ListN.{drop, length-set}
 use borrow.Author.Rules.{rules}
@@ -16,7 +17,8 @@ loop-i-preserved c =
     let l = c.loop-i in
     let x = c.args in
     let turn = shifted_turn READY x.n.ready_at l.device l.i (search rules) in
-    (omega (arith, l.invariant), simp length-set l.invariant.1, turn ∙ l.invariant.2)
+    let next : l.i - 1 + 1 ≡ l.i = omega arith in
+    (omega (arith, l.invariant), simp length-set l.invariant.1, rw next (turn ∙ l.invariant.2))
 
 pub returns : goal.returns
 returns c =

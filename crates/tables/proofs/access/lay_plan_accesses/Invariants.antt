@@ -1,8 +1,7 @@
 -- `tables::access::lay_plan_accesses` meets its contract: the accesses of the tasks before i are laid.
 -- Assumes nothing.
-use Prim.Native.Nat.{◌*◌, ◌-◌, ◌≤◌}
+use Prim.Native.Nat.{◌*◌, ◌≤◌}
 use mathlib.Core.Path.{◌≡◌}
-use lib.ListN.{length}
 use Rattle.tasks.specs.Accesses.{total as Total}
 use Rattle.memory.specs.Layout as layout
 use Rattle.tables.specs.Tables.{OfPlan}
@@ -11,8 +10,5 @@ use Rattle.tables.proofs.access.lay_plan_accesses.Given as goal
 
 abbrev pub invariant-loop-i : goal.invariant-loop-i
 invariant-loop-i l =
-    (l.i ≤ l.count) × (l.at ≤ layout.most_task_accesses * l.i) × (length l.accesses ≡ layout.access_rows)
+    (l.at ≤ layout.most_task_accesses * l.i)
     × OfPlan l.plan l.count (λ text p. l.total ≡ Total p.tasks → AccessesTo p l.initial.accesses l.i l.at l.accesses)
-
-abbrev pub decreases-loop-i : goal.decreases-loop-i
-decreases-loop-i l = l.count - l.i

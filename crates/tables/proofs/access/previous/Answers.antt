@@ -1,31 +1,23 @@
-use borrow.Author.Rules.{rules}
-use mathlib.Core.Path.{refl, sym, ◌∙◌}
+use mathlib.Core.Path.{sym}
 use borrow.Author.Tests.{eq-eqb, ne_eqb}
-use Rattle.memory.specs.SearchLaws.{search_found, search_on, search_none}
+use Rattle.memory.specs.SearchLaws.{search_on}
 use Rattle.tables.specs.Laid.{at_address}
+use Rattle.tables.proofs.Chains.{found_last, found_none}
 use Rattle.tables.proofs.access.previous.Goals as goal
 
-pub loop-i-init : goal.loop-i-init
-loop-i-init c =
-    (search rules, refl)
-
-pub returns-then-address : goal.returns-then-address
-returns-then-address c =
+pub returns-then-accesses-b : goal.returns-then-accesses-b
+returns-then-accesses-b c =
     let s = c.args in
-    let x = c.loop-i in
-    search_found (at_address s.accesses.now s.address) s.a x.i (search rules)
-    (eq-eqb _ _ (sym c.if-address.true ∙ c.address.ensures)) x.invariant.1
+    found_last (at_address s.accesses.now s.address) s.a c.loop-b.b c.loop-b-test.true (eq-eqb _ _ (sym c.if-accesses-b.true))
+    c.loop-b.invariant
 
-pub loop-i-preserved : goal.loop-i-preserved
-loop-i-preserved c =
+pub loop-b-preserved : goal.loop-b-preserved
+loop-b-preserved c =
     let s = c.args in
-    let x = c.loop-i in (
-      search rules,
-      search_on (at_address s.accesses.now s.address) s.a x.i (search rules)
-          (ne_eqb _ _ (λ e. c.if-address.false (c.address.ensures ∙ sym e))) x.invariant.1,
-    )
+    search_on (at_address s.accesses.now s.address) s.a c.loop-b.b c.loop-b-test.true
+    (ne_eqb _ _ (λ e. c.if-accesses-b.false (sym e))) c.loop-b.invariant
 
 pub returns : goal.returns
 returns c =
     let s = c.args in
-    search_none (at_address s.accesses.now s.address) s.a c.loop-i.i c.loop-i-test.false c.loop-i.invariant.1
+    found_none (at_address s.accesses.now s.address) s.a c.loop-b.b c.loop-b-test.false c.loop-b.invariant
