@@ -1,21 +1,18 @@
 -- The steps of an owner: it serves waiters, takes a task for itself, hands over and leaves.
-use Prim.Native.Nat.{ℕ, suc, ◌+◌, ◌%◌, ◌≤◌, ◌<◌}
+use Prim.Native.Nat.{ℕ, suc, ◌+◌, ◌≤◌, ◌<◌}
 use native.Mathlib.Omega.{arith}
-use native.Mathlib.Numerals.{add-one}
 use native.Mathlib.Nat.{mod-lt}
 use mathlib.Core.Path.{◌≡◌, refl, sym, ap, ap₂, ◌∙◌}
 use mathlib.Core.Logic.{⊎_elim, ◌≢◌}
 use mathlib.Core.List.{List}
 use mathlib.Core.Option.{Option, none, some}
-use lib.ListN.{length, get_or, drop}
+use lib.ListN.{length, get_or}
 use lib.Seq.{get_or-set_same, get_or-set_other}
+use Rattle.std.specs.Prelude as rust
 use Rattle.runs.specs.Update.{same, upd, upd_same, upd_other}
 use Rattle.lock.specs.Lock as L
 use Rattle.lock.specs.declared.Ends.{Ends}
-use Rattle.runs.specs.Circular.{entries, entries_same, shifted, shifted_length}
-use Rattle.plan.specs.Plan.{Task}
 use Rattle.tasks.specs.History as Th
-use Rattle.memory.specs.Layout.{most_tasks}
 use Rattle.memory.specs.declared.rows.TaskRow.{TaskRow}
 use Rattle.memory.specs.Memory as T
 use Rattle.machine.specs.State.{Place, idle, serving, handing, leaving}
@@ -24,41 +21,29 @@ use Rattle.machine.specs.Step.{lock_op, task_op, effect, giver_after, lock_after
 use Rattle.machine.specs.Ready.{nothing}
 use Rattle.machine.proofs.Ready.{choose_nowhere}
 use Rattle.machine.specs.Events.{event_fill, event_take_alone, event_take_served, event_stop, event_hand_over, event_leave}
-use Rattle.steps.specs.Layout.{SERVING, HANDING, LEAVING, IDLE, READY, GIVERS, MASKS}
+use Rattle.steps.specs.Layout.{SERVING, HANDING, LEAVING, IDLE}
 use Rattle.steps.specs.declared.Counts.{Counts}
-use Rattle.steps.specs.Memory.{part, station, Stationed, Slotted, Memory, with_ends, one_taken, Given, Masked, Able}
+use Rattle.steps.specs.declared.device.Device.{Device}
+use Rattle.steps.specs.Memory.{part, station, Stationed, Slotted, Memory, with_ends, one_taken, Given, Able}
 use Rattle.steps.specs.Ready.{ready_in, without, FallsFor}
 use Rattle.steps.proofs.Acting.{acts_hold, tasks_still, own_stationed}
-use Rattle.steps.proofs.Choosing.{behind, listed_length, task_known, choice_inside, choice_past}
+use Rattle.steps.proofs.Choosing.{listed_length, task_known, choice_inside, choice_past}
 use Rattle.lock_steps.specs.Lent.{lock_in, handed_in, with_handed, with_served}
 use Rattle.lock_steps.specs.Going.{Gone, Received, given_by, handed_on}
 use Rattle.lock_steps.proofs.FromLock.{slots_are, Filled, lock_with, after_fill, after_pass, after_leave}
 use Rattle.lock_steps.proofs.Stepping.{tasks_of, code_in, number_in, Leads, workers_few, tasks_few, place_is, goes, tasks_after_lem}
 
--- a giver stands behind the slots of the ready list and before the masks, and at its task's number
-list_still : (device : List ℕ) (task giver at n : ℕ)
-    → entries (λ k. get_or (given_by device task giver) k 0) READY at n ≡ entries (λ k. get_or device k 0) READY at n
-list_still device task giver at n =
-    entries_same READY (λ k. get_or (given_by device task giver) k 0) (λ k. get_or device k 0) at n
-    (λ k l.
-    let slot : (at + k) % READY < READY = mod-lt (at + k) (omega arith) in
-    get_or-set_other device (GIVERS + task) ((at + k) % READY) (giver + 1) 0 (λ e. omega arith))
-
-given_set : (device : List ℕ) (tasks : ℕ) (before : ℕ → Option ℕ) (task giver : ℕ) → GIVERS + task < length device
-    → Given tasks device before → Given tasks (given_by device task giver) (upd before task (some giver))
-given_set device tasks before task giver room given i l =
+-- a giver stands at its task's number
+given_set : (givers : List (rust.Option ℕ)) (tasks : ℕ) (before : ℕ → Option ℕ) (task giver : ℕ) → task < length givers
+    → Given tasks givers before → Given tasks (given_by givers task giver) (upd before task (some giver))
+given_set givers tasks before task giver room given i l =
     ⊎_elim
     (λ (e : i ≡ task).
-    rw (e, upd_same before task (some giver)) (get_or-set_same device (GIVERS + task) (giver + 1) 0 room ∙ add-one giver))
+    rw (e, upd_same before task (some giver)) (get_or-set_same givers task (rust.Some giver) rust.None room))
     (λ (d : i ≢ task).
     rw (upd_other before task (some giver) i d)
-    (get_or-set_other device (GIVERS + task) (GIVERS + i) (giver + 1) 0 (λ e. d (omega arith)) ∙ given i l))
+    (get_or-set_other givers task i (rust.Some giver) rust.None d ∙ given i l))
     (same i task)
-
-masks_still : (device : List ℕ) (W : ℕ) (ts : List Task) (task giver : ℕ) → task < most_tasks
-    → Masked W ts device → Masked W ts (given_by device task giver)
-masks_still device W ts task giver few masks i l =
-    get_or-set_other device (GIVERS + task) (MASKS + i) (giver + 1) 0 (λ e. omega arith) ∙ masks i l
 
 -- the device holds a task out, whoever does it
 abbrev pub HeldOut : (rows after : List TaskRow) → ℕ → Type 0
@@ -90,38 +75,26 @@ module _ {m : Memory} {own : List ℕ} {w : ℕ} (a : Able m own w) where
   pub handed_few : (h : Handed) → handed_in m.counts.slots lock_here w ≡ some h → h.task < 128
   handed_few h e = tasks_few a.fit h.task (a.fit.handed h (sym hands_on_lem ∙ e))
 
-  -- the ready list, the givers and the masks in the device's array, with what is handed over
-  list_on : (o : Option Handed)
-      → entries (λ k. get_or (handed_on m.device o) k 0) READY m.counts.ready_at m.counts.ready ≡ a.s.ready_list
-  list_on none = a.holds.device.ready
-  list_on (some h) =
-      list_still m.device h.task h.by m.counts.ready_at m.counts.ready ∙ a.holds.device.ready
-
-  givers_on : (o : Option Handed) → hands_on ≡ o → Given (length a.c.tasks) (handed_on m.device o) (giver_after a.c a.s o)
+  -- the givers with what is handed over
+  givers_on : (o : Option Handed) → hands_on ≡ o → Given (length a.c.tasks) (handed_on m.device.givers o) (giver_after a.c a.s o)
   givers_on none e = a.holds.device.givers
   givers_on (some h) e =
-      given_set m.device (length a.c.tasks) a.s.giver h.task h.by
-      (omega (arith, a.long.device, tasks_few a.fit h.task (a.fit.handed h e))) a.holds.device.givers
-
-  masks_on : (o : Option Handed) → hands_on ≡ o → Masked a.c.workers a.c.tasks (handed_on m.device o)
-  masks_on none e = a.holds.device.masks
-  masks_on (some h) e =
-      masks_still m.device a.c.workers a.c.tasks h.task h.by (tasks_few a.fit h.task (a.fit.handed h e))
-      a.holds.device.masks
+      given_set m.device.givers (length a.c.tasks) a.s.giver h.task h.by
+      (omega (arith, a.long.device.givers, tasks_few a.fit h.task (a.fit.handed h e))) a.holds.device.givers
 
   -- the memory with that, and with other ends of the lock and a wait slot written
   abbrev handed_memory : Ends → List ℕ → Memory
   handed_memory ends written =
-      with_handed m (with_ends m.counts ends) written m.registrations m.tickets m.cells (handed_on m.device hands_on)
+      with_handed m (with_ends m.counts ends) written m.registrations m.tickets m.cells (handed_on m.device.givers hands_on)
 
-  module _ (r : Counts) (written device : List ℕ) (numbers : r ≡ with_ends m.counts r.ends)
+  module _ (r : Counts) (written : List ℕ) (givers : List (rust.Option ℕ)) (numbers : r ≡ with_ends m.counts r.ends)
       (lock : lock_in m.counts.slots r.ends written m.registrations m.tickets m.cells
       ≡ L.hand_over m.counts.slots lock_here)
-      (given : device ≡ handed_on m.device (handed_in m.counts.slots lock_here w)) where
-    handed_memory_lem : with_handed m r written m.registrations m.tickets m.cells device ≡ handed_memory r.ends written
+      (given : givers ≡ handed_on m.device.givers (handed_in m.counts.slots lock_here w)) where
+    handed_memory_lem : with_handed m r written m.registrations m.tickets m.cells givers ≡ handed_memory r.ends written
     handed_memory_lem =
-        ap₂ (λ (n : Counts) (list : List ℕ). with_handed m n written m.registrations m.tickets m.cells list) numbers
-        (given ∙ ap (handed_on m.device) hands_on_lem)
+        ap₂ (λ (n : Counts) (list : List (rust.Option ℕ)). with_handed m n written m.registrations m.tickets m.cells list) numbers
+        (given ∙ ap (handed_on m.device.givers) hands_on_lem)
 
     -- by an event that hands over and goes to a place
     hands_and_goes : (e : Event) → event a.c a.s w ≡ e → task_op e ≡ none → (to : Place)
@@ -129,7 +102,7 @@ module _ {m : Memory} {own : List ℕ} {w : ℕ} (a : Able m own w) where
         ≡ record { place = to; queue = a.s.queue; ready_list = a.s.ready_list; giver = giver_after a.c a.s hands_on }
         → lock_with a r.ends written m.registrations m.tickets m.cells ≡ lock_after a.c a.s.lock w (lock_op e)
         → (next : List ℕ) → part next ≡ part own → Stationed (station next) to (a.s.queue w) → Slotted a.c.slots (station next) to
-        → Leads a (with_handed m r written m.registrations m.tickets m.cells device) next
+        → Leads a (with_handed m r written m.registrations m.tickets m.cells givers) next
     hands_and_goes e is no_task_lem to effects after next kept there slot =
         rw handed_memory_lem
         (acts_hold a.holds e is (handed_memory r.ends written) next after
@@ -139,20 +112,20 @@ module _ {m : Memory} {own : List ℕ} {w : ℕ} (a : Able m own w) where
         (rw effects slot)
         (λ u d. rw effects)
         a.holds.device.ready_at_lem
-        (rw effects (list_on hands_on))
+        (rw effects a.holds.device.ready)
         (rw effects (givers_on hands_on refl))
-        (masks_on hands_on refl)
+        a.holds.device.masks
         refl)
 
     pub hand_acts : code_in own ≡ HANDING → (next : List ℕ) → Gone own next SERVING (number_in own + 1)
-        → Leads a (with_handed m r written m.registrations m.tickets m.cells device) next
+        → Leads a (with_handed m r written m.registrations m.tickets m.cells givers) next
     hand_acts place next gone =
         hands_and_goes (hands_over (number_in own) hands_on) (event_hand_over a.c a.s w (place_is a HANDING place)) refl
         (serving (suc (number_in own))) refl (after_pass a r.ends written lock)
         next gone.kept (gone.there _ _ _ (own_stationed a) (refl, omega arith)) tt
 
     pub leave_acts : code_in own ≡ LEAVING → (next : List ℕ) → Gone own next IDLE 0
-        → Leads a (with_handed m r written m.registrations m.tickets m.cells device) next
+        → Leads a (with_handed m r written m.registrations m.tickets m.cells givers) next
     leave_acts place next gone =
         hands_and_goes (leaves hands_on) (event_leave a.c a.s w (place_is a LEAVING place)) refl idle refl
         (after_leave a r.ends written lock)
@@ -215,35 +188,29 @@ module _ {m : Memory} {own : List ℕ} {w : ℕ} (a : Able m own w) where
 
     -- ---- the task at place k goes to the front waiter, or the owner takes it; `left` and r are what is left of the ready list
 
-    module _ (k task : ℕ) (there : k < m.counts.ready) (is : task ≡ get_or (ready_in m.counts m.device) k 0)
+    module _ (k task : ℕ) (there : k < m.counts.ready) (is : task ≡ get_or (ready_in m.counts m.device.ready) k 0)
         (r : Counts) (left : List ℕ)
-        (out : ((r ≡ one_taken m.counts) × (left ≡ shifted READY m.counts.ready_at m.device k))
-        × ((ready_in r left ≡ without k (ready_in m.counts m.device)) × (drop READY left ≡ drop READY m.device))) where
-      still : (j : ℕ) → READY ≤ j → get_or left j 0 ≡ get_or m.device j 0
-      still = behind m.device left out.1.1
-
+        (out : (r ≡ one_taken m.counts) × (ready_in r left ≡ without k (ready_in m.counts m.device.ready))) where
       shorter : ready_in (one_taken m.counts) left ≡ without k a.s.ready_list
-      shorter = rw out.0.0 at out.1.0 ∙ ap (without k) a.holds.device.ready
+      shorter = rw out.0 at out.1 ∙ ap (without k) a.holds.device.ready
 
-      left_givers : Given (length a.c.tasks) left a.s.giver
-      left_givers i l = still (GIVERS + i) (omega arith) ∙ a.holds.device.givers i l
-
-      left_masks : Masked a.c.workers a.c.tasks left
-      left_masks i l = still (MASKS + i) (omega arith) ∙ a.holds.device.masks i l
+      -- the device with that list and these givers
+      abbrev device_left : List (rust.Option ℕ) → Device
+      device_left givers = record { ready = left; givers = givers; masks = m.device.masks }
 
       pub fill_acts : (v : ℕ) → L.front a.c.slots a.s.lock ≡ some v → FallsFor m.counts m.device v k
           → number_in own + 1 < m.counts.workers → (stamped filled : List ℕ) (rows : List TaskRow) (next : List ℕ)
           → Filled m.counts.ends v task m.tickets stamped m.cells filled
           → HeldOut m.rows rows task
           → Gone own next HANDING (number_in own)
-          → Leads a (with_served m r m.registrations stamped filled left rows) next
+          → Leads a (with_served m r m.registrations stamped filled (device_left m.device.givers) rows) next
       fill_acts v waiter found fewer stamped filled rows next fill held gone =
           let e = fills (number_in own) v task (without k a.s.ready_list) in
           let happens : event a.c a.s w ≡ e =
           event_fill a.c a.s w serves waiter (omega (arith, a.holds.device.workers))
           (choice_inside a v k (a.fit.front v waiter) found task there is) in
-          rw out.0.0
-          (acts_hold a.holds e happens (with_served m (one_taken m.counts) m.registrations stamped filled left rows) next
+          rw out.0
+          (acts_hold a.holds e happens (with_served m (one_taken m.counts) m.registrations stamped filled (device_left m.device.givers) rows) next
           (after_fill a v task fill)
           (tasks_after_lem a e happens (Th.holds task) refl rows next (rw gone.kept (held (tasks_of m) (part own) m.counts.picks w)))
           (refl, refl, refl)
@@ -252,22 +219,22 @@ module _ {m : Memory} {own : List ℕ} {w : ℕ} (a : Able m own w) where
           (λ u d. refl)
           (mod-lt (m.counts.ready_at + 1) (omega arith))
           shorter
-          left_givers
-          left_masks
+          a.holds.device.givers
+          a.holds.device.masks
           refl)
 
       pub take_acts : Takes → FallsFor m.counts m.device w k → (rows : List TaskRow) (next : List ℕ)
           → Received m.rows own rows next task w m.counts.picks LEAVING
-          → Leads a (with_served m r m.registrations m.tickets m.cells (given_by left task w) rows) next
+          → Leads a (with_served m r m.registrations m.tickets m.cells (device_left (given_by m.device.givers task w)) rows) next
       take_acts takes_it found rows next got =
           let e = takes task (without k a.s.ready_list) in
           let happens : event a.c a.s w ≡ e =
           takes_it ∙ ap (taking a.c a.s) (choice_inside a w k a.fit.worker found task there is) in
           let known = task_known a k task there is in
           let taken = one_taken m.counts in
-          rw out.0.0
+          rw out.0
           (acts_hold a.holds e happens
-          (with_served m taken m.registrations m.tickets m.cells (given_by left task w) rows) next
+          (with_served m taken m.registrations m.tickets m.cells (device_left (given_by m.device.givers task w)) rows) next
           a.holds.lock
           (tasks_after_lem a e happens (Th.takes task) refl rows next (got.does (tasks_of m)).0)
           (refl, refl, refl)
@@ -275,17 +242,8 @@ module _ {m : Memory} {own : List ℕ} {w : ℕ} (a : Able m own w) where
           tt
           (λ u d. refl)
           (mod-lt (m.counts.ready_at + 1) (omega arith))
-          (list_still left task w taken.ready_at taken.ready ∙ shorter)
-          (given_set left (length a.c.tasks) a.s.giver task w left_long left_givers)
-          (masks_still left a.c.workers a.c.tasks task w (tasks_few a.fit task known) left_masks)
+          shorter
+          (given_set m.device.givers (length a.c.tasks) a.s.giver task w (omega (arith, a.long.device.givers, tasks_few a.fit task known))
+          a.holds.device.givers)
+          a.holds.device.masks
           refl)
-        where
-          left_long : GIVERS + task < length left
-          left_long =
-              omega (
-                arith,
-                ap length out.0.1,
-                shifted_length READY m.counts.ready_at k m.device,
-                a.long.device,
-                tasks_few a.fit task (task_known a k task there is),
-              )

@@ -1,5 +1,6 @@
--- A worker's share becomes another, in which the worker is elsewhere; the device's array becomes another, in which a task has its giver.
-use Rattle.std.specs.Prelude.{ℕ, ◌+◌, ◌≡◌, List, set}
+-- A worker's share becomes another, in which the worker is elsewhere; the device's givers become others, in which a task has its giver.
+use Rattle.std.specs.Prelude.{ℕ, ◌≡◌, List, set}
+use Rattle.std.specs.Prelude as rust
 use Rattle.std.proofs.Math.Option.{Option, none, some}
 use Rattle.tasks.specs.History as Th
 use Rattle.memory.specs.declared.rows.TaskRow.{TaskRow}
@@ -7,7 +8,6 @@ use Rattle.memory.specs.Memory as T
 use Rattle.machine.specs.State.{Place}
 use Rattle.machine.specs.Event.{Handed}
 use Rattle.steps.specs.Codes.{Coded}
-use Rattle.steps.specs.Layout.{GIVERS}
 use Rattle.steps.specs.Memory.{part, station, Stationed}
 
 -- the device's part: the worker is at the place that has code k and number a, and its queue is as it was
@@ -31,10 +31,10 @@ pub record Received (rows : List TaskRow) (own : List ℕ) (after : List TaskRow
   pub does : ReceivedBy rows (part own) after (part next) task w time
   pub there : Moved own next k 0
 
--- the device's array with the giver of a task, and with that of the task that is handed over, if any
-abbrev pub given_by : List ℕ → ℕ → ℕ → List ℕ
-given_by device task giver = set device (GIVERS + task) (giver + 1)
+-- the givers with that of a task, and with that of the task that is handed over, if any
+abbrev pub given_by : List (rust.Option ℕ) → ℕ → ℕ → List (rust.Option ℕ)
+given_by givers task giver = set givers task (rust.Some giver)
 
-abbrev pub handed_on : List ℕ → Option Handed → List ℕ
-handed_on device none = device
-handed_on device (some h) = given_by device h.task h.by
+abbrev pub handed_on : List (rust.Option ℕ) → Option Handed → List (rust.Option ℕ)
+handed_on givers none = givers
+handed_on givers (some h) = given_by givers h.task h.by

@@ -1,19 +1,16 @@
 -- What the arrays say of a state, and the answer that they lead to.
-use Prim.Native.Nat.{ℕ, ◌+◌, ◌≤◌, ◌<◌}
+use Prim.Native.Nat.{ℕ, ◌≤◌, ◌<◌}
 use native.Mathlib.Omega.{arith}
 use mathlib.Core.Path.{◌≡◌, sym, ap, ◌∙◌}
 use mathlib.Core.List.{List, ◌++◌}
-use lib.ListN.{length, take, drop, length-drop}
-use lib.Seq.{get_or-drop, take_all}
+use lib.ListN.{length, drop}
 use Rattle.refusals.specs.declared.Refusal.TheVariants.{OutputTooShort}
 use Rattle.machine.specs.State.{Setup, State}
 use Rattle.machine.specs.Ranges.{Sized}
 use Rattle.memory.specs.Layout as layout
 use Rattle.memory.specs.Labels.{Labels}
-use Rattle.memory.specs.declared.rows.TaskRow.{TaskRow}
 use Rattle.memory.specs.declared.labels.Label.{Label}
 use Rattle.steps.specs.declared.Counts.{Counts}
-use Rattle.steps.specs.Layout.{GIVERS, MASKS, device_size}
 use Rattle.steps.specs.Memory.{share, Masked, Holds}
 use Rattle.scheduler.specs.declared.arrays.Arrays.{Arrays}
 use Rattle.scheduler.specs.Lent.{memory_of}
@@ -25,34 +22,29 @@ use Rattle.play.specs.Outcome.{reports, refuses, written}
 use Rattle.play.specs.Summed.{Summed}
 use Rattle.play.specs.Written.{written_short, written_whole}
 
--- the device's array from a place on, as the code lends it: that of the givers, or that of the masks
-pub rest : (a : Arrays) (at n : ℕ) → device_size ≡ at + n → take n (drop at a.device) ≡ drop at a.device
-rest a at n e = take_all n (drop at a.device) (omega (arith, length-drop at a.device, a.long))
-
 -- the masks of a setup that is within its sizes
-pub masks_are : (c : Setup) (device : List ℕ) → Sized c → Masked c.workers c.tasks device → Masks c (drop MASKS device)
-masks_are c device sized h =
-    record { few = sized.workers; formed = sized.masks; are = λ i l. get_or-drop MASKS device i 0 ∙ h i l }
+pub masks_are : (c : Setup) (masks : List ℕ) → Sized c → Masked c.workers c.tasks masks → Masks c masks
+masks_are c masks sized h = record { few = sized.workers; formed = sized.masks; are = h }
 
 module _ {n : Counts} {a : Arrays} {store : List ℕ} {r : Summary} (summed : Summed n a store r) where
   module _ {c : Setup} {s : State} (sized : Sized c) (holds : Holds c (memory_of n a) (share store) s) where
     tasks_counted : r.tasks ≡ length c.tasks
     tasks_counted = summed.tasks ∙ holds.tasks.tasks
 
-    pub shown : {text : List ℕ} {places : List Label} → Labels c.tasks text places → Shown c s r a.rows places (drop GIVERS a.device) text
+    pub shown : {text : List ℕ} {places : List Label} → Labels c.tasks text places → Shown c s r a.rows places a.device.givers text
     shown labels =
         let (f, l) = summed.found c s holds in
         record {
           finished = f;
           picks = summed.picks ∙ holds.picks;
-          permitted = summed.permitted ∙ ap (ones_of (drop MASKS a.device)) holds.tasks.tasks
-              ∙ total_ones c (drop MASKS a.device) (masks_are c a.device sized holds.device.masks);
+          permitted = summed.permitted ∙ ap (ones_of a.device.masks) holds.tasks.tasks
+              ∙ total_ones c a.device.masks (masks_are c a.device.masks sized holds.device.masks);
           head = summed.head ∙ ap (λ l. l.head) holds.lock;
           tail = summed.tail ∙ ap (λ l. l.tail) holds.lock;
           leader = l;
           count = tasks_counted;
           rows = holds.tasks.task_rows_lem;
-          givers = λ i l. get_or-drop GIVERS a.device i 0 ∙ holds.device.givers i l;
+          givers = holds.device.givers;
           labels = labels;
         }
 

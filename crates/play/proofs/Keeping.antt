@@ -1,5 +1,5 @@
 -- The order lines that are kept, and no others, are those of the plan.
-use Rattle.std.specs.Prelude.{ℕ, suc, ◌≡◌, refl, List, [], ◌∷◌, length, take}
+use Rattle.std.specs.Prelude.{suc, ◌≡◌, refl, List, [], ◌∷◌, length, take}
 use Rattle.std.proofs.Common.{ap, ◌∙◌, arith}
 use Rattle.plan.specs.declared.order.Order.{Order}
 use Rattle.kept.specs.Orders.{HasOrders}

@@ -11,7 +11,7 @@ ghost use Rattle.machine.specs.State.{Setup, State, start};
 ghost use Rattle.machine.specs.Ranges.{Sized};
 ghost use Rattle.memory.specs.Layout as layout;
 ghost use Rattle.memory.specs.Labels.{Labels};
-ghost use Rattle.steps.specs.Layout.{most_workers, most_slots, shares_size, MASKS, GIVERS};
+ghost use Rattle.steps.specs.Layout.{most_workers, most_slots, shares_size};
 ghost use Rattle.steps.specs.Memory.{share, Given, Holds};
 ghost use Rattle.scheduler.specs.Lent.{memory_of};
 ghost use Rattle.report.specs.Report.{report};
@@ -36,7 +36,8 @@ use report::{Summary, put_report, total_permitted};
 use scheduler::arrays::Arrays;
 use scheduler::{fresh, is_finished};
 use steps::Counts;
-use steps::layout::{DEVICE, GIVERS, MASKS, MOST_SLOTS};
+use steps::device::Device;
+use steps::layout::{MOST_SLOTS, READY_SLOTS};
 use tables::lay_out;
 use tables::mask::lay_masks;
 
@@ -54,16 +55,15 @@ pub struct Ran {
 fn summary_of(n: Counts, arrays: &Arrays, store: &[u64]) -> Summary
     requires room { (shares_size ≤ length store.now) × (n.workers ≤ most_workers) × (0 < n.slots) × (n.slots ≤ most_slots) }
     requires masks { (n.tally.tasks ≤ layout.most_tasks)
-        × ((i : ℕ) → i < n.tally.tasks → get_or (drop MASKS arrays.now.device) i 0 < 2 ^ 32) }
+        × ((i : ℕ) → i < n.tally.tasks → get_or arrays.now.device.masks i 0 < 2 ^ 32) }
     ensures { Summed n arrays.now store.now result }
 {
     let head = n.ends.head;
     let tail = n.ends.tail;
-    let masks = &arrays.device[MASKS..];
     Summary {
         finished: is_finished(n),
         picks: n.picks,
-        permitted: total_permitted(masks, n.tally.tasks as usize),
+        permitted: total_permitted(&arrays.device.masks, n.tally.tasks as usize),
         head: head.0,
         tail: tail.0,
         leader: find_leader(n, store, &arrays.wait, &arrays.tickets, &arrays.cells),
@@ -81,16 +81,16 @@ fn has_room(
 ) -> bool
     requires few { summary.tasks ≤ layout.most_tasks }
     requires small { (c : Setup) × (s : State) × Small c s
-        × Shown c s summary arrays.now.rows labels.now (drop GIVERS arrays.now.device) text.now }
+        × Shown c s summary arrays.now.rows labels.now arrays.now.device.givers text.now }
     ensures { (c : Setup) (s : State) → Small c s →
-        Shown c s summary arrays.now.rows labels.now (drop GIVERS arrays.now.device) text.now →
+        Shown c s summary arrays.now.rows labels.now arrays.now.device.givers text.now →
         result ≡ leb (length (report c s)) size }
 {
     if LONGEST <= size {
         return true;
     }
     let mut nothing = [0u8; 0];
-    let givers = &arrays.device[GIVERS..];
+    let givers = &arrays.device.givers;
     put_report(summary, text, &arrays.rows, labels, givers, &mut nothing) <= size
 }
 
@@ -114,7 +114,7 @@ fn answer_of(
 {
     let summary = summary_of(n, arrays, store);
     if has_room(summary, text, arrays, labels, output.len()) {
-        let givers = &arrays.device[GIVERS..];
+        let givers = &arrays.device.givers;
         let length = put_report(summary, text, &arrays.rows, labels, givers, output);
         let picks = n.picks;
         return Ok(Ran { picks, length });
@@ -137,7 +137,7 @@ fn set_up(
     ensures { (text : List ℕ) (p : Plan) (store : List ℕ) → reading text ≡ accepted p →
         LoadedTasks text plan.now read p →
         shares_size ≤ length store → take shares_size store ≡ replicate shares_size 0 →
-        Given layout.most_tasks arrays.old.device (λ _. none) →
+        Given layout.most_tasks arrays.old.device.givers (λ _. none) →
         Holds (setup_of p) (memory_of result arrays.new) (share store) (start (setup_of p))
         × Labels p.tasks text labels.new }
 {
@@ -145,7 +145,7 @@ fn set_up(
     let capacity = capacity_of(read.form);
     let tasks = read.tasks;
     lay_out(plan, tasks, &mut arrays.rows, &mut arrays.accesses, labels);
-    lay_masks(plan, tasks, read.workers, &mut arrays.device[MASKS..]);
+    lay_masks(plan, tasks, read.workers, &mut arrays.device.masks);
     let ends = lock::start(
         slots,
         &mut arrays.wait,
@@ -179,7 +179,11 @@ pub fn run_plan(
         registrations: [0; MOST_SLOTS],
         tickets: [0; MOST_WORKERS],
         cells: [0; MOST_WORKERS],
-        device: [0; DEVICE],
+        device: Device {
+            ready: [0; READY_SLOTS],
+            givers: [None; MOST_TASKS],
+            masks: [0; MOST_TASKS],
+        },
         rows: [NO_TASK; MOST_TASKS],
         accesses: [NO_ACCESS; MOST_ACCESSES],
     };

@@ -2,7 +2,7 @@
 use Prim.Native.Nat.{ℕ, zero, suc, ◌+◌, ◌≤◌, ◌<◌}
 use mathlib.Core.Path.{◌≡◌, refl, sym, ap, ◌∙◌}
 use mathlib.Core.List.{List, [], ◌∷◌, ◌++◌, append-nil, append_assoc}
-use mathlib.Core.Option.{Option, none, some}
+use mathlib.Core.Option.{Option}
 use native.Mathlib.Nat.{add-zero}
 use native.Mathlib.Numerals.{add-one}
 use native.Mathlib.Omega.{arith}
@@ -20,8 +20,8 @@ use Rattle.machine.specs.State.{Setup, State}
 use Rattle.machine.specs.Step.{finished}
 use Rattle.machine.specs.Whereabouts.{leader}
 use Rattle.memory.specs.Layout as layout
-use Rattle.std.specs.Prelude.{Option as RustOption}
-use Rattle.memory.specs.Codes.{status_of, option_code, option_of, coded_by}
+use Rattle.std.specs.Prelude as rust
+use Rattle.memory.specs.Codes.{status_of, option_of}
 use Rattle.memory.specs.Rows.{outcome_at}
 use Rattle.memory.specs.RowLaws.{outcome_is}
 use Rattle.memory.specs.Labels.{label_at, label_in}
@@ -46,22 +46,18 @@ lines_more c s i (suc k) (t ∷ ts) h =
 
 -- ---- a task's line
 
--- a giver's number, read
-code_read : (o : Option ℕ) → coded_by (option_code o) ≡ option_of o
-code_read none = refl
-code_read (some g) = refl
-
 -- what is written of a task's numbers is the line of the task that they show
-pub wrote_task : {c : Setup} {s : State} {table : List TaskRow} {places : List Label} {given bs : List ℕ} {i : ℕ} → TaskShown c s table places given bs i
-    → {label : List ℕ} {task : Outcome} {giver : RustOption ℕ} {w v : Writer}
-    → label ≡ label_in bs (label_at places i) → task ≡ outcome_at table i → giver ≡ coded_by (get_or given i 0)
+pub wrote_task : {c : Setup} {s : State} {table : List TaskRow} {places : List Label} {given : List (rust.Option ℕ)} {bs : List ℕ}
+    → {i : ℕ} → TaskShown c s table places given bs i
+    → {label : List ℕ} {task : Outcome} {giver : rust.Option ℕ} {w v : Writer}
+    → label ≡ label_in bs (label_at places i) → task ≡ outcome_at table i → giver ≡ get_or given i rust.None
     → ((x : Status) (g : Option ℕ) → status_of x ≡ task.status → option_of g ≡ giver
     → Writes w (fields (task_fields i label x task.runner task.receipt task.ending g)) v)
     → Writes w (fields (fields_of c s i)) v
 wrote_task {s = s} {i = i} shown e f h w =
     let is = f ∙ shown.outcome in
     rw (e ∙ shown.label, ap (λ (t : Outcome). t.runner) is, ap (λ (t : Outcome). t.receipt) is, ap (λ (t : Outcome). t.ending) is)
-    at (w (s.tasks.status i) (s.giver i) (sym (ap (λ (t : Outcome). t.status) is)) (sym (h ∙ ap coded_by shown.giver ∙ code_read (s.giver i))))
+    at (w (s.tasks.status i) (s.giver i) (sym (ap (λ (t : Outcome). t.status) is)) (sym (h ∙ shown.giver)))
 
 pub label_short : (bs : List ℕ) (l : Label) {label : List ℕ} → label ≡ label_in bs l → l.size ≤ layout.most_label
     → length label ≤ layout.most_label
@@ -69,7 +65,7 @@ label_short bs l e h = omega (arith, ap length e, length-take l.size (drop l.pla
 
 -- ---- the whole report
 
-module _ {c : Setup} {s : State} {summary : Summary} {table : List TaskRow} {places : List Label} {given bs : List ℕ}
+module _ {c : Setup} {s : State} {summary : Summary} {table : List TaskRow} {places : List Label} {given : List (rust.Option ℕ)} {bs : List ℕ}
     (shown : Shown c s summary table places given bs) where
   task_shown : (i : ℕ) → i < length c.tasks → TaskShown c s table places given bs i
   task_shown i h =

@@ -15,7 +15,6 @@ ghost use Rattle.report.specs.Shown.{fields_of, TaskShown, Shown};
 
 use line::{put_lock_line, put_outcome_line, put_task_line};
 use machine::Leader;
-use memory::codes::coded_by;
 use memory::labels::Label;
 use memory::rows::{TaskRow, outcome_of};
 use text::write::Writer;
@@ -54,7 +53,7 @@ fn put_task(
     text: &[u8],
     tasks: &[TaskRow],
     labels: &[Label],
-    givers: &[u64],
+    givers: &[Option<u64>],
     to: &mut Writer,
 )
     requires { (length tasks.now ≡ layout.most_tasks) × (length labels.now ≡ layout.most_tasks)
@@ -67,24 +66,18 @@ fn put_task(
 {
     let stands = labels[i];
     let label = kept::tasks::label(text, stands.place as usize, stands.size as usize);
-    put_task_line(
-        i as u64,
-        label,
-        outcome_of(tasks, i),
-        coded_by(givers[i]),
-        to,
-    );
+    put_task_line(i as u64, label, outcome_of(tasks, i), givers[i], to);
 }
 
-// Writes the report into the first bytes of an output, as far as it reaches; how many bytes it has. By task, `givers` has the giver's
-// number and 1 more, or 0. The numbers must show a state, so for every call that is allowed the output is fixed.
+// Writes the report into the first bytes of an output, as far as it reaches; how many bytes it has. By task, `givers` has its giver, if it
+// has one. The numbers must show a state, so for every call that is allowed the output is fixed.
 // Rows, labels and givers stay slices side by side: `Shown` in the clauses, which may not change, is of each of them.
 pub fn put_report(
     summary: Summary,
     text: &[u8],
     tasks: &[TaskRow],
     labels: &[Label],
-    givers: &[u64],
+    givers: &[Option<u64>],
     output: &mut [u8],
 ) -> usize
     requires lengths { (length tasks.now ≡ layout.most_tasks) × (length labels.now ≡ layout.most_tasks)

@@ -1,14 +1,12 @@
 -- Worker w drains the queue of worker k, which may be itself: the device's part of k changes, then that of w.
-use Prim.Native.Nat.{ℕ, zero, suc, ◌+◌, ◌%◌, ◌≤◌, ◌<◌}
+use Prim.Native.Nat.{ℕ, suc, ◌+◌, ◌≤◌, ◌<◌}
 use native.Mathlib.Omega.{arith}
 use native.Mathlib.Numerals.{add-one}
-use native.Mathlib.Nat.{mod-lt}
 use mathlib.Core.Path.{◌≡◌, refl, sym, ap, ◌∙◌}
 use mathlib.Core.Logic.{◌⊎◌, inl, inr, ◌≢◌}
 use mathlib.Core.Bool.{Bool, true, false}
 use mathlib.Core.List.{List, [], ◌++◌}
 use lib.ListN.{length, get_or}
-use lib.Seq.{get_or-set_other}
 use lib.Dec.{ltb}
 use borrow.Author.Tests.{lt-ltb, le-ltb}
 use Rattle.runs.specs.Update.{upd, upd_id, upd_all, upd_both, map_upd}
@@ -20,10 +18,10 @@ use Rattle.machine.proofs.Ready.{arrive_length}
 use Rattle.machine.specs.Step.{after_draining, next_drain}
 use Rattle.machine.specs.Events.{event_drain}
 use Rattle.machine.specs.Ranges.{Fit, acted}
-use Rattle.steps.specs.Layout.{station_size, place_at, number_at, queued_at, slot_at, queue_from, most_workers, queue_slots, READY, GIVERS, MASKS}
+use Rattle.steps.specs.Layout.{station_size, place_at, number_at, queued_at, slot_at, most_workers, queue_slots, READY}
 use Rattle.steps.specs.Layout.{DRAINING_TO_SERVE, DRAINING_TO_ADD, SERVING, LEAVING}
 use Rattle.steps.specs.Codes.{Coded}
-use Rattle.steps.specs.Memory.{part, station, Stationed, Slotted, drained, Memory, Holds}
+use Rattle.steps.specs.Memory.{part, station, Stationed, Slotted, Memory, Holds}
 use Rattle.steps.specs.declared.Counts.{Counts}
 use Rattle.steps.proofs.Parts.{station_at, part_of, station_of}
 use Rattle.steps.proofs.Stations.{queue_count}
@@ -98,21 +96,6 @@ module _ (c : Setup) (p : Purpose) (k n a : ℕ) (h : Coded n a (draining p k)) 
       go for_serving e = absurd (other e.0)
       go for_adding e = refl
 
--- ---- the device's array
-
--- what lies behind the slots of the ready list stays
-drained_at : (own ready : List ℕ) (at n k j : ℕ) → GIVERS ≤ j → get_or (drained own ready at n k) j 0 ≡ get_or ready j 0
-unfolding drained
-drained_at own ready at n zero j l = refl
-drained_at own ready at n (suc k) j l =
-    let slot : (at + n + k) % READY < READY = mod-lt (at + n + k) (omega arith) in
-    get_or-set_other (drained own ready at n k) ((at + n + k) % READY) j (get_or own (queue_from + k) 0) 0 (λ e. omega arith)
-    ∙ drained_at own ready at n k j l
-
-pub drained_behind : (own ready : List ℕ) (at n k : ℕ) {more : List ℕ} → more ≡ drained own ready at n k
-    → (j : ℕ) → GIVERS ≤ j → get_or more j 0 ≡ get_or ready j 0
-drained_behind own ready at n k e j l = ap (λ (xs : List ℕ). get_or xs j 0) e ∙ drained_at own ready at n k j l
-
 -- ---- the shares with another part of the device
 
 module _ (shares : ℕ → List ℕ) (k : ℕ) (z : List ℕ) (long : length z ≡ station_size) where
@@ -142,9 +125,11 @@ readied n r =
       tally = n.tally;
     }
 
--- with another content of the device's array too
-abbrev pub with_device : Memory → Counts → List ℕ → Memory
-with_device m n device = memory n m.wait m.registrations m.tickets m.cells device m.rows m.accesses
+-- with another content of the ready list too
+abbrev pub with_ready : Memory → Counts → List ℕ → Memory
+with_ready m n ready =
+    memory n m.wait m.registrations m.tickets m.cells
+    (record { ready = ready; givers = m.device.givers; masks = m.device.masks }) m.rows m.accesses
 
 module _ {c : Setup} {m : Memory} {shares : ℕ → List ℕ} {s : State} {w : ℕ} (h : Holds c m shares s) (fit : Fit c s w)
     (at : (get_or (shares w) place_at 0 ≡ DRAINING_TO_SERVE) ⊎ (get_or (shares w) place_at 0 ≡ DRAINING_TO_ADD)) where
@@ -176,7 +161,7 @@ module _ {c : Setup} {m : Memory} {shares : ℕ → List ℕ} {s : State} {w : �
     pub drained_room : m.counts.ready + get_or (stations k) queued_at 0 ≤ READY
     drained_room =
         let after : length (arrive s.ready_list (s.queue k)) ≤ READY = rw (event_drain c s w stands_at) at fit.room_ready in
-        let counted = ready_length m.counts m.device in
+        let counted = ready_length m.counts m.device.ready in
         let queued = queue_count (h.device.stationed k drained_worker) in
         omega (arith, arrive_length s.ready_list (s.queue k), counted, ap length h.device.ready, queued)
 
@@ -200,13 +185,12 @@ module _ {c : Setup} {m : Memory} {shares : ℕ → List ℕ} {s : State} {w : �
 
       pub drain_acts : (two more : List ℕ) (r : ℕ)
           → ((p : Place) (q is : List ℕ) → Stationed (stations k) p q
-          → entries (λ i. get_or m.device i 0) READY m.counts.ready_at m.counts.ready ≡ is
+          → entries (λ i. get_or m.device.ready i 0) READY m.counts.ready_at m.counts.ready ≡ is
           → entries (λ i. get_or more i 0) READY m.counts.ready_at r ≡ arrive is q)
-          → ((j : ℕ) → GIVERS ≤ j → get_or more j 0 ≡ get_or m.device j 0)
           → get_or one slot_at 0 ≡ get_or (stations k) slot_at 0
           → ((x : Purpose) (q : List ℕ) → Stationed (upd stations k one w) (draining x k) q → Stationed two (next_drain c x k) q)
-          → Holds c (with_device m (readied m.counts r) more) (with_station (with_station shares k one) w two) (acted c s w)
-      drain_acts two more r moved kept slot next =
+          → Holds c (with_ready m (readied m.counts r) more) (with_station (with_station shares k one) w two) (acted c s w)
+      drain_acts two more r moved slot next =
           let to = next_drain c stands.0 k in
           let first = with_station shares k one in
           let own = next stands.0 (upd s.queue k [] w) emptied_own in
@@ -230,8 +214,8 @@ module _ {c : Setup} {m : Memory} {shares : ℕ → List ℕ} {s : State} {w : �
                       upd_both (λ v y p. v < c.workers → Slotted c.slots y p) (upd stations k one) s.place w two to
                       (λ l. slotted_next c stands.0 k c.slots two) (λ v d l. slots v l) v l;
                   ready_at_lem = h.device.ready_at_lem;
-                  givers = λ i l. kept (GIVERS + i) (omega arith) ∙ h.device.givers i l;
-                  masks = λ i l. kept (MASKS + i) (omega arith) ∙ h.device.masks i l;
+                  givers = h.device.givers;
+                  masks = h.device.masks;
                   ready = moved (s.place k) (s.queue k) s.ready_list (h.device.stationed k drained_worker) h.device.ready;
                 });
             picks = h.picks;

@@ -4,9 +4,10 @@ use Rattle.memory.specs.declared.rows.TaskRow.{TaskRow}
 use Rattle.memory.specs.declared.rows.AccessRow.{AccessRow}
 use Rattle.steps.specs.Memory.{Memory, Long}
 use Rattle.steps.specs.declared.Counts.{Counts}
+use Rattle.steps.specs.declared.device.Device.{Device}
 use Rattle.scheduler.specs.declared.arrays.Arrays.{Arrays}
 
-abbrev pub memory : Counts → (wait registrations tickets cells device : List ℕ) → (rows : List TaskRow) → (accesses : List AccessRow) → Memory
+abbrev pub memory : Counts → (wait registrations tickets cells : List ℕ) → (device : Device) → (rows : List TaskRow) → (accesses : List AccessRow) → Memory
 memory n wait registrations tickets cells device rows accesses =
     record {
       counts = n;

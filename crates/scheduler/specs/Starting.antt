@@ -23,6 +23,7 @@ use Rattle.machine.specs.State.{Setup, idle, start}
 use Rattle.steps.specs.Layout.{share_size, station_size, place_at, queued_at, queue_from, queue_slots, most_workers, shares_size, READY}
 use Rattle.steps.specs.Memory.{share, part, station, Stationed, Given, Masked, Holds}
 use Rattle.steps.specs.declared.Counts.{Counts}
+use Rattle.steps.specs.declared.device.Device.{Device}
 use Rattle.scheduler.specs.Lent.{memory}
 
 abbrev pub fresh_counts : Ends → (workers slots capacity tasks : ℕ) → Counts
@@ -79,12 +80,12 @@ module _ (store : List ℕ) (long : shares_size ≤ length store) (zeros : take 
   part_long : length (part (share store w)) ≡ layout.part
   part_long = omega (arith, share_long, length-drop station_size (share store w))
 
--- ---- and a device's array with no giver and with the plan's masks
+-- ---- and a device with no giver and with the plan's masks
 
 module _ (c : Setup) (few : c.workers ≤ most_workers) where
-  pub starts : (ends : Ends) (wait registrations tickets cells device : List ℕ) (rows : List TaskRow) (accesses : List AccessRow) (store : List ℕ)
+  pub starts : (ends : Ends) (wait registrations tickets cells : List ℕ) (device : Device) (rows : List TaskRow) (accesses : List AccessRow) (store : List ℕ)
       → shares_size ≤ length store → take shares_size store ≡ replicate shares_size 0
-      → Given (length c.tasks) device (λ _. none) → Masked c.workers c.tasks device
+      → Given (length c.tasks) device.givers (λ _. none) → Masked c.workers c.tasks device.masks
       → lock_of c.slots ends.head.0 ends.tail.0 wait registrations tickets cells ≡ L.start c.slots
       → TaskRows c.tasks rows (λ _. 0) (λ _. T.new) (λ _. 0) (λ _. 0) (λ _. 0) → AccessRows c.tasks accesses (λ _. no_flag)
       → Holds c
@@ -105,7 +106,7 @@ module _ (c : Setup) (few : c.workers ≤ most_workers) where
           stationed = λ v l. starts_idle store long zeros v (omega arith);
           slotted = λ v l. tt;
           ready_at_lem = omega arith;
-          ready = entries_none (λ k. get_or device k 0) READY 0;
+          ready = entries_none (λ k. get_or device.ready k 0) READY 0;
           givers = givers;
           masks = masks;
         };

@@ -117,7 +117,7 @@ fn step_own(n: Counts, arrays: &mut Arrays, own: &mut [u64], w: u64) -> Counts
             &arrays.registrations,
             &arrays.tickets,
             &arrays.cells,
-            &mut arrays.device,
+            &mut arrays.device.givers,
             own,
             w,
         ),
@@ -127,7 +127,7 @@ fn step_own(n: Counts, arrays: &mut Arrays, own: &mut [u64], w: u64) -> Counts
             &arrays.registrations,
             &arrays.tickets,
             &arrays.cells,
-            &mut arrays.device,
+            &mut arrays.device.givers,
             own,
             w,
         ),
@@ -168,7 +168,7 @@ fn drain_step(n: Counts, arrays: &mut Arrays, store: &mut [u64], w: usize) -> Co
     let to = from + STATION;
     let ready = drain(
         &mut store[from..to],
-        &mut arrays.device,
+        &mut arrays.device.ready,
         n.ready_at,
         n.ready,
     );

@@ -38,9 +38,9 @@ module _ {c : Setup} {m : Memory} {shares : ℕ → List ℕ} {s : State} {w : �
       → Slotted c.slots (station next) (effect c s w e).place
       → ((v : ℕ) → v ≢ w → (effect c s w e).queue v ≡ s.queue v)
       → n.counts.ready_at < READY
-      → entries (λ k. get_or n.device k 0) READY n.counts.ready_at n.counts.ready ≡ (effect c s w e).ready_list
-      → Given (length c.tasks) n.device (effect c s w e).giver
-      → Masked c.workers c.tasks n.device
+      → entries (λ k. get_or n.device.ready k 0) READY n.counts.ready_at n.counts.ready ≡ (effect c s w e).ready_list
+      → Given (length c.tasks) n.device.givers (effect c s w e).giver
+      → Masked c.workers c.tasks n.device.masks
       → n.counts.picks ≡ m.counts.picks
       → Holds c n (upd shares w next) (acted c s w)
   acts_hold n next lock tasks (workers, slots, capacity) own slot others ready_at ready givers masks picks =

@@ -1,5 +1,5 @@
 -- Where the device's numbers lie: the names of offsets and codes. `src/layout.rt` has the same.
-use Rattle.std.specs.Prelude.{ℕ, ◌+◌, ◌*◌}
+use Rattle.std.specs.Prelude.{ℕ, ◌*◌}
 use Rattle.memory.specs.Layout as layout
 
 -- a worker's share: the device's part, then the tasks'
@@ -59,21 +59,12 @@ DRAINING_TO_SERVE = 7
 abbrev pub DRAINING_TO_ADD : ℕ
 DRAINING_TO_ADD = 8
 
--- the most slots of a ring; the ready list; the device's array has its slots, and behind them by task its giver, then by task its mask
+-- the most slots of a ring; the slots of the ready list
 abbrev pub most_slots : ℕ
 most_slots = 64
 
 abbrev pub READY : ℕ
 READY = 128
-
-abbrev pub GIVERS : ℕ
-GIVERS = READY
-
-abbrev pub MASKS : ℕ
-MASKS = GIVERS + layout.most_tasks
-
-abbrev pub device_size : ℕ
-device_size = MASKS + layout.most_tasks
 
 -- the workers, and the shares of all of them
 abbrev pub most_workers : ℕ

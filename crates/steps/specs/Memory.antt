@@ -1,5 +1,6 @@
 -- A state of the machine in memory, by its three parts: the lock, the tasks, and where the device keeps what it was given.
 use Rattle.std.specs.Prelude.{ℕ, zero, suc, ◌+◌, ◌*◌, ◌-◌, ◌%◌, ◌<◌, ◌≡◌, List, length, get_or, set, take, drop}
+use Rattle.std.specs.Prelude as rust
 use Rattle.std.proofs.Math.Option.{Option}
 use Rattle.runs.specs.Update.{upd}
 use Rattle.lock.specs.Arrays.{lock_of}
@@ -8,16 +9,18 @@ use Rattle.runs.specs.Circular.{entries}
 use Rattle.plan.specs.Plan.{Task}
 use Rattle.plan.specs.PermitLaws.{mask_of}
 use Rattle.tasks.specs.Accesses.{task_at}
-use Rattle.memory.specs.Codes.{option_code}
+use Rattle.memory.specs.Layout as layout
+use Rattle.memory.specs.Codes.{option_of}
 use Rattle.memory.specs.Memory as T
 use Rattle.memory.specs.declared.rows.TaskRow.{TaskRow}
 use Rattle.memory.specs.declared.rows.AccessRow.{AccessRow}
 use Rattle.memory.specs.declared.tally.Tally.{Tally}
 use Rattle.machine.specs.State.{Setup, Place, idle, trying, registering, looking, draining, serving, handing, leaving, State}
 use Rattle.machine.specs.Ranges.{Fit, acted}
-use Rattle.steps.specs.Layout.{share_size, station_size, place_at, number_at, queued_at, slot_at, queue_from, queue_slots, most_workers, most_slots, READY, GIVERS, MASKS, device_size}
+use Rattle.steps.specs.Layout.{share_size, station_size, place_at, number_at, queued_at, slot_at, queue_from, queue_slots, most_workers, most_slots, READY}
 use Rattle.steps.specs.Codes.{Coded}
 use Rattle.steps.specs.declared.Counts.{Counts}
+use Rattle.steps.specs.declared.device.Device.{Device}
 
 -- each share starts where the one before ended
 unfoldable pub share : List ℕ → ℕ → List ℕ
@@ -68,16 +71,22 @@ pub record Memory : Type 0 where
   pub registrations : List ℕ
   pub tickets : List ℕ
   pub cells : List ℕ
-  pub device : List ℕ
+  pub device : Device
   pub rows : List TaskRow
   pub accesses : List AccessRow
+
+-- what the device keeps has its lengths
+pub record LongDevice (device : Device) : Type 0 where
+  pub ready : length device.ready ≡ READY
+  pub givers : length device.givers ≡ layout.most_tasks
+  pub masks : length device.masks ≡ layout.most_tasks
 
 pub record Long (m : Memory) : Type 0 where
   pub wait : length m.wait ≡ most_slots
   pub registrations : length m.registrations ≡ most_slots
   pub tickets : length m.tickets ≡ most_workers
   pub cells : length m.cells ≡ most_workers
-  pub device : length m.device ≡ device_size
+  pub device : LongDevice m.device
   pub tasks : T.Long (T.memory m.counts.tally m.rows m.accesses)
 
 -- the memory with other numbers and another content of what is named
@@ -137,16 +146,16 @@ one_taken n =
       tally = n.tally;
     }
 
--- by task, its giver and 1 more, or 0
-abbrev pub Given : ℕ → List ℕ → (ℕ → Option ℕ) → Type 0
-Given tasks device giver = (i : ℕ) → i < tasks → get_or device (GIVERS + i) 0 ≡ option_code (giver i)
+-- by task, its giver, if it has one
+abbrev pub Given : ℕ → List (rust.Option ℕ) → (ℕ → Option ℕ) → Type 0
+Given tasks givers giver = (i : ℕ) → i < tasks → get_or givers i rust.None ≡ option_of (giver i)
 
 -- by task, its mask
 abbrev pub Masked : ℕ → List Task → List ℕ → Type 0
-Masked W tasks device = (i : ℕ) → i < length tasks → get_or device (MASKS + i) 0 ≡ mask_of W (task_at tasks i).mask
+Masked W tasks masks = (i : ℕ) → i < length tasks → get_or masks i 0 ≡ mask_of W (task_at tasks i).mask
 
 -- the device's part
-pub record HoldsDevice (c : Setup) (n : Counts) (device : List ℕ) (stations : ℕ → List ℕ) (place : ℕ → Place) (queue : ℕ → List ℕ)
+pub record HoldsDevice (c : Setup) (n : Counts) (device : Device) (stations : ℕ → List ℕ) (place : ℕ → Place) (queue : ℕ → List ℕ)
     (ready_list : List ℕ) (giver : ℕ → Option ℕ) : Type 0 where
   pub workers : n.workers ≡ c.workers
   pub slots : n.slots ≡ c.slots
@@ -154,9 +163,9 @@ pub record HoldsDevice (c : Setup) (n : Counts) (device : List ℕ) (stations : 
   pub stationed : (v : ℕ) → v < c.workers → Stationed (stations v) (place v) (queue v)
   pub slotted : (v : ℕ) → v < c.workers → Slotted c.slots (stations v) (place v)
   pub ready_at_lem : n.ready_at < READY
-  pub ready : entries (λ k. get_or device k 0) READY n.ready_at n.ready ≡ ready_list
-  pub givers : Given (length c.tasks) device giver
-  pub masks : Masked c.workers c.tasks device
+  pub ready : entries (λ k. get_or device.ready k 0) READY n.ready_at n.ready ≡ ready_list
+  pub givers : Given (length c.tasks) device.givers giver
+  pub masks : Masked c.workers c.tasks device.masks
 
 -- A state lies in this memory and these shares. What neither this nor `HoldsTasks` speaks of is left to the program: in the device's part
 -- the numbers without a name, the slots behind the queue, the number of a place that speaks of none, and the noted slot where it doesn't

@@ -1,23 +1,24 @@
--- The ready list in the device's array, by its places: the oldest task is at place 0.
+-- The device's ready list, by its places: the oldest task is at place 0.
 use Rattle.std.specs.Prelude.{ℕ, suc, ◌+◌, ◌%◌, ◌≤◌, ◌<◌, ◌≡◌, Bool, true, false, List, ◌++◌, length, get_or, take, drop}
 use Rattle.runs.specs.Counts.{count}
 use Rattle.runs.specs.Circular.{entries}
 use Rattle.machine.specs.State.{Setup}
 use Rattle.machine.specs.Ready.{nothing, chosen, choose}
 use Rattle.machine.specs.Event.{may}
-use Rattle.steps.specs.Layout.{READY, MASKS}
+use Rattle.steps.specs.Layout.{READY}
 use Rattle.steps.specs.Memory.{Masked}
 use Rattle.steps.specs.declared.Counts.{Counts}
+use Rattle.steps.specs.declared.device.Device.{Device}
 
 abbrev pub ready_in : Counts → List ℕ → List ℕ
-ready_in n device = entries (λ k. get_or device k 0) READY n.ready_at n.ready
+ready_in n ready = entries (λ k. get_or ready k 0) READY n.ready_at n.ready
 
 -- the task at place k, and its mask
 abbrev pub listed : Counts → List ℕ → ℕ → ℕ
-listed n device k = get_or device ((n.ready_at + k) % READY) 0
+listed n ready k = get_or ready ((n.ready_at + k) % READY) 0
 
-abbrev pub mask_at : Counts → List ℕ → ℕ → ℕ
-mask_at n device k = get_or device (MASKS + listed n device k) 0
+abbrev pub mask_at : Counts → Device → ℕ → ℕ
+mask_at n device k = get_or device.masks (listed n device.ready k) 0
 
 -- each task of a list is below a bound
 abbrev pub Below : ℕ → List ℕ → Type 0
@@ -39,7 +40,7 @@ pub record Falls (may : ℕ → Bool) (tasks : List ℕ) (k : ℕ) : Type 0 wher
   pub past : length tasks ≤ k → choose may tasks ≡ nothing
 
 -- so it is for worker w in each setup that has these masks and the tasks of the list
-abbrev pub FallsFor : Counts → List ℕ → (w k : ℕ) → Type 0
+abbrev pub FallsFor : Counts → Device → (w k : ℕ) → Type 0
 FallsFor n device w k =
-    (c : Setup) → Masked c.workers c.tasks device → Below (length c.tasks) (ready_in n device) → w < c.workers
-    → Falls (may c w) (ready_in n device) k
+    (c : Setup) → Masked c.workers c.tasks device.masks → Below (length c.tasks) (ready_in n device.ready) → w < c.workers
+    → Falls (may c w) (ready_in n device.ready) k

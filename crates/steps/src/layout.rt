@@ -1,7 +1,5 @@
 // Where the device's numbers lie: the names of offsets and codes. `specs/Layout.antt` has the same. The device's part of a share stays
 // numbers: it lies in the store of numbers that the caller lends.
-use memory::layout::MOST_TASKS;
-
 // In the device's part: the place, what it speaks of, how many are queued, the slot of a ticket that is waited with; the queue's slots.
 pub const PLACE: usize = 0;
 
@@ -32,13 +30,9 @@ pub const DRAINING_TO_SERVE: u64 = 7;
 
 pub const DRAINING_TO_ADD: u64 = 8;
 
-// The most slots of a ring. The ready list; the device's array has its slots, and behind them by task its giver, then by task its mask.
+// The most slots of a ring; the slots of the ready list, also as the length of its array.
 pub const MOST_SLOTS: usize = 64;
 
 pub const READY: u64 = 128;
 
-pub const GIVERS: usize = READY as usize;
-
-pub const MASKS: usize = GIVERS + MOST_TASKS;
-
-pub const DEVICE: usize = MASKS + MOST_TASKS;
+pub const READY_SLOTS: usize = READY as usize;

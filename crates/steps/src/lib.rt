@@ -18,6 +18,7 @@ use memory::rows::{AccessRow, TaskRow};
 use memory::tally::Tally;
 use station::{go, push};
 
+pub mod device; // device.rt: what the device keeps in memory
 pub mod layout; // layout.rt: names of offsets and codes
 pub mod ready; // ready.rt: the ready list
 pub mod station; // station.rt: the device's part of a share

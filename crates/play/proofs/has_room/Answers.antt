@@ -1,15 +1,12 @@
 -- `has_room` meets its contract: the report is counted, or no report is longer.
 use native.Mathlib.Omega.{arith}
-use Prim.Native.Nat.{◌-◌}
-use mathlib.Core.Path.{refl, sym, ap}
+use mathlib.Core.Path.{sym, ap}
 use lib.Dec.{leb}
-use lib.ListN.{length, length-drop}
+use lib.ListN.{length}
 use borrow.Author.Tests.{le-leb}
 use Rattle.text.specs.WritingLaws.{told_length}
 use Rattle.report.specs.Report.{report}
 use Rattle.report.proofs.Sizes.{report_short}
-use Rattle.steps.specs.Layout.{GIVERS, device_size}
-use Rattle.play.proofs.Answering.{rest}
 use Rattle.play.proofs.has_room.Goals as goal
 
 pub returns-then-size-ge-LONGEST : goal.returns-then-size-ge-LONGEST
@@ -21,11 +18,9 @@ pub put_report-requires : goal.put_report-requires
 put_report-requires c =
     let a = c.args.arrays.now in
     let (d, s, small, is) = c.requires.small in
-    rw (rest a GIVERS (device_size - GIVERS) refl)
-    (record { lengths = (omega arith, omega arith, omega (arith, length-drop GIVERS a.device), c.requires.few); shown = (d, s, is) })
+    record { lengths = (omega arith, omega arith, omega (arith, a.long.4.givers), c.requires.few); shown = (d, s, is) }
 
 pub returns : goal.returns
 returns c d s small shown =
     let size = c.args.size in
-    let put = rw (rest c.args.arrays.now GIVERS (device_size - GIVERS) refl) at c.put_report.ensures in
-    ap (λ n. leb n size) (told_length (put d s shown))
+    ap (λ n. leb n size) (told_length (c.put_report.ensures d s shown))

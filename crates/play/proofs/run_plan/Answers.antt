@@ -1,16 +1,17 @@
 -- `run_plan` meets its contract. On the way back from the answer: `held` is the call of play_orders, `made` that of set_up.
-use Prim.Native.Nat.{ℕ, ◌+◌, ◌≤◌}
+use Prim.Native.Nat.{ℕ, ◌≤◌}
 use native.Mathlib.Omega.{arith}
 use mathlib.Core.Path.{◌≡◌, ap}
 use mathlib.Core.List.{List}
 use lib.ListN.{length, take, length-take, get_or-replicate}
+use Rattle.std.specs.Prelude as rust
 use Rattle.plan.specs.Plan.{Plan}
 use Rattle.plan.specs.declared.order.Order.{Order}
 use Rattle.kept.specs.declared.tasks.Row.{Row}
 use Rattle.reader.specs.declared.ReadPlan.{ReadPlan}
 use Rattle.orders.specs.Reached.{setup_of, reached}
 use Rattle.orders.proofs.AcceptedRuns.{sized}
-use Rattle.steps.specs.Layout.{GIVERS, device_size}
+use Rattle.memory.specs.Layout as layout
 use Rattle.play.specs.Loaded.{Loaded}
 use Rattle.play.specs.Short.{small}
 use Rattle.play.proofs.Keeping.{kept_orders}
@@ -38,7 +39,7 @@ pub play_orders-n-requires : goal.play_orders-n-requires
 play_orders-n-requires c =
     let (p, e, says) = c.requires.loaded in
     let room = c.requires.room in
-    let made = c.set_up-begin.ensures _ p _ e says.tasks room.0 room.1 (λ i l. get_or-replicate device_size (GIVERS + i) 0 0 (omega arith)) in
+    let made = c.set_up-begin.ensures _ p _ e says.tasks room.0 room.1 (λ i l. get_or-replicate layout.most_tasks i rust.None rust.None (omega arith)) in
     record { room = room.0; text = _; p = p; accepts = e; orders = all_lines says; holds = made.0 }
 
 pub answer_of-requires : goal.answer_of-requires
@@ -46,7 +47,7 @@ answer_of-requires c =
     let (p, e, says) = c.requires.loaded in
     let room = c.requires.room in
     let limit = c.args.limit in
-    let made = c.set_up-begin.ensures _ p _ e says.tasks room.0 room.1 (λ i l. get_or-replicate device_size (GIVERS + i) 0 0 (omega arith)) in
+    let made = c.set_up-begin.ensures _ p _ e says.tasks room.0 room.1 (λ i l. get_or-replicate layout.most_tasks i rust.None rust.None (omega arith)) in
     let held = c.play_orders-n.ensures.held _ p e (all_lines says) made.0 in
     record {
       room = omega (arith, c.play_orders-n.auto.store, room.0);
@@ -59,7 +60,7 @@ returns c =
       answer = λ p left e says.
           let room = c.requires.room in
           let limit = c.args.limit in
-          let made = c.set_up-begin.ensures _ p _ e says.tasks room.0 room.1 (λ i l. get_or-replicate device_size (GIVERS + i) 0 0 (omega arith)) in
+          let made = c.set_up-begin.ensures _ p _ e says.tasks room.0 room.1 (λ i l. get_or-replicate layout.most_tasks i rust.None rust.None (omega arith)) in
           let held = c.play_orders-n.ensures.held _ p e (all_lines says) made.0 in
           c.answer_of.ensures (setup_of p) (reached p limit) left (sized _ p e) (small _ p e limit) made.1 held;
       later = c.play_orders-n.ensures.later;

@@ -3,18 +3,16 @@ use Prim.Native.Nat.{ℕ}
 use native.Mathlib.Omega.{arith}
 use mathlib.Core.Path.{◌≡◌, ap, ◌∙◌}
 use mathlib.Core.List.{List}
-use lib.ListN.{length, length-take, length-drop}
-use Rattle.memory.specs.Layout as layout
+use mathlib.Core.Option.{none}
+use lib.ListN.{length}
 use Rattle.plan.specs.Plan.{slots_of, capacity_of, Plan}
 use Rattle.kept.specs.declared.tasks.Row.{Row}
 use Rattle.reader.specs.declared.ReadPlan.{ReadPlan}
 use Rattle.plan.proofs.Accepted.{accepted_well_formed}
-use Rattle.steps.specs.Layout.{MASKS}
+use Rattle.steps.specs.Memory.{Given}
 use Rattle.scheduler.specs.Starting.{starts}
 use Rattle.orders.specs.Reached.{setup_of}
-use borrow.Rule.Slice.PartMut.{same_len_mid}
 use Rattle.play.specs.Loaded.{LoadedTasks}
-use Rattle.play.proofs.Masking.{still_ungiven, laid_masks}
 use Rattle.play.proofs.set_up.Goals as goal
 
 -- what the reader says of its workers, its form and its tasks
@@ -32,7 +30,7 @@ lay_masks-requires c =
     let (text, p, e, says) = c.requires in record {
       lengths = (
         says.size,
-        omega (arith, length-take {A = ℕ}, length-drop {A = ℕ}),
+        omega (arith, c.args.arrays.now.long.4.masks),
         omega (arith, (workers_of says), (accepted_well_formed text p e).workers_few),
       );
       readable = (text, p, e, (count_of says), says.tasks);
@@ -45,9 +43,18 @@ start-ends-requires c =
 
 pub invariant_of-arrays : goal.invariant_of-arrays
 invariant_of-arrays c =
-    let device = c.args.arrays.now.device in
-    let kept = same_len_mid MASKS layout.most_tasks device c.lay_masks.new.masks c.lay_masks.auto.masks in
-    record { long = (omega arith, omega arith, omega arith, omega arith, omega arith, omega arith, omega arith) }
+    let long = c.args.arrays.now.long.4 in
+    record {
+      long = (
+        omega arith,
+        omega arith,
+        omega arith,
+        omega arith,
+        record { ready = long.ready; givers = long.givers; masks = c.lay_masks.auto.masks ∙ long.masks },
+        omega arith,
+        omega arith,
+      );
+    }
 
 pub returns : goal.returns
 returns c text p store e says long zeros ungiven =
@@ -57,13 +64,8 @@ returns c text p store e says long zeros ungiven =
     let formed = accepted_well_formed text p e in
     let slots = c.slots_of-slots.ensures ∙ ap slots_of (form_of says) in
     let capacity = c.capacity_of-capacity.ensures ∙ ap capacity_of (form_of says) in
-    let device = c.args.arrays.now.device in
-    let sized = c.args.arrays.now.long.4 in
-    let back = c.lay_masks.new.masks in
-    let tasks = formed.tasks_few in
-    let givers = still_ungiven device back sized (length p.tasks) tasks ungiven in
-    let masks = laid_masks device back sized p.workers p.tasks _
-    (omega (arith, c.lay_masks.auto.masks, length-take {A = ℕ}, length-drop {A = ℕ})) (rw (count_of says) at masked) in (
+    let givers : Given (length p.tasks) c.args.arrays.now.device.givers (λ _. none) = λ i l. ungiven i (omega (arith, formed.tasks_few)) in
+    let masks = (rw (count_of says) at masked).rows in (
       rw (c.fresh.ensures, (workers_of says), slots, capacity, (count_of says))
           (starts (setup_of p) formed.workers_few _ _ _ _ _ _ _ _ store long zeros givers masks (rw slots at started.lock) laid.0 laid.1),
       laid.2,

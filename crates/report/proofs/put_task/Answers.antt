@@ -1,5 +1,5 @@
--- `report::put_task` meets its contract: the label is what `label` gives, the outcome what `outcome_of` gives, and the giver's
--- number is read. Assumes nothing.
+-- `report::put_task` meets its contract: the label is what `label` gives, and the outcome what `outcome_of` gives. Assumes nothing.
+use mathlib.Core.Path.{refl}
 use Rattle.memory.specs.Labels.{label_at}
 use Rattle.report.proofs.Lines.{label_short, wrote_task}
 use Rattle.report.proofs.put_task.Goals as goal
@@ -12,4 +12,4 @@ put_task_line-requires c =
 pub returns-clause-wrote : goal.returns-clause-wrote
 returns-clause-wrote c setup state shown =
     let wrote = c.put_task_line.ensures.wrote in
-    wrote_task shown c.label-label.ensures c.outcome_of.ensures c.coded_by.ensures wrote
+    wrote_task shown c.label-label.ensures c.outcome_of.ensures refl wrote

@@ -12,7 +12,7 @@ use Rattle.steps.specs.Layout.{share_size, place_at, number_at, queued_at, slot_
 use Rattle.steps.specs.Memory.{share, station, Memory, Holds}
 use Rattle.steps.proofs.Parts.{share_at, station_long}
 use Rattle.scheduler.proofs.Lending.{share_length, station_lent, second_lent, both_shares, both_later}
-use Rattle.scheduler.proofs.Draining.{drained_behind, drained_below, drained_known, drained_few, drained_room}
+use Rattle.scheduler.proofs.Draining.{drained_below, drained_known, drained_few, drained_room}
 use Rattle.scheduler.proofs.Draining.{emptied_stations, emptied_long, drain_acts}
 use Rattle.scheduler.proofs.drain_step.Goals as goal
 
@@ -90,7 +90,6 @@ returns c =
           rw (both_shares store k w below few long one c.drain-ready.auto.own two c.drained.auto.own)
           (drain_acts holds fit c.requires.room.2 (drains_is c.args.store.now c.args.w) emptied two c.drain-ready.new.ready c.drain-ready.result
           (rw lent at c.drain-ready.ensures.ready)
-          (drained_behind _ _ _ _ _ c.drain-ready.ensures.numbers.2)
           slot
           (λ x q. rw lent2 at (c.drained.ensures setup x q holds.device.workers)));
       later = both_later store k w below few long one c.drain-ready.auto.own two c.drained.auto.own;

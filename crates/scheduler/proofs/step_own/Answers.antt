@@ -1,5 +1,6 @@
 -- `step_own` meets its contract.
 use native.Mathlib.Omega.{arith}
+use mathlib.Core.Path.{◌∙◌}
 use lib.ListN.{get_or}
 use Rattle.steps.specs.Layout.{place_at}
 use Rattle.steps.proofs.Acting.{own_long}
@@ -53,10 +54,26 @@ pub returns-in-3 : goal.returns-in-3
 returns-in-3 c = c.look_step.ensures (memory_of c.args.n c.args.arrays.now)
 
 pub returns-in-4 : goal.returns-in-4
-returns-in-4 c = c.serve_step.ensures (memory_of c.args.n c.args.arrays.now)
+returns-in-4 c = c.serve_step.ensures.acts (memory_of c.args.n c.args.arrays.now)
 
 pub returns-in-5 : goal.returns-in-5
 returns-in-5 c = c.hand_step.ensures (memory_of c.args.n c.args.arrays.now)
 
 pub returns-in_default : goal.returns-in_default
 returns-in_default c = c.leave_step.ensures (memory_of c.args.n c.args.arrays.now)
+
+pub invariant_of-arrays-in-4 : goal.invariant_of-arrays-in-4
+invariant_of-arrays-in-4 c =
+    let serve = c.serve_step in
+    let (wait, registrations, tickets, cells, device, rows, accesses) = c.args.arrays.now.long in
+    record {
+      long = (
+        wait,
+        registrations,
+        serve.auto.tickets ∙ tickets,
+        serve.auto.cells ∙ cells,
+        serve.ensures.long,
+        serve.auto.rows ∙ rows,
+        accesses,
+      );
+    }

@@ -5,7 +5,6 @@ use Rattle.lock.specs.Answers.{seen}
 use Rattle.machine.specs.Event.{found}
 use Rattle.steps.proofs.Acting.{slots_some, slots_few}
 use Rattle.lock_steps.proofs.FromLock.{HandsOver, told_front, told_by, hands_nobody, hands_found, finds_none}
-use Rattle.lock_steps.proofs.Stepping.{workers_few}
 use Rattle.lock_steps.proofs.Owning.{let_in_few, handed_few}
 use Rattle.lock_steps.proofs.owner.hand_on.Goals as goal
 use Rattle.lock_steps.proofs.owner.hand_on.Goals.{in-Some+in-Receives, in-Some+in_default-looked, in_default}
@@ -32,9 +31,8 @@ note_giver-requires c =
     record { raised = told.ensures.ends; waits = told.ensures.waits; locks = told.ensures.lock; tells = told.ensures.tells } in
     let finds = hands_found hands x.tickets.now x.cells.now c.in-Some.taker c.in-Some.is _ c.look-looked.ensures in
     let (m, own, a) = c.requires in (
-      a.long.device,
+      a.long.device.givers,
       handed_few a _ (finds ∙ ap (λ y. found x.w c.in-Some.taker.0 (seen y)) c.in-Receives.is),
-      omega (arith, told_by hands x.tickets.now x.cells.now, workers_few a.fit x.w a.fit.worker),
     )
 
 pub returns-clause-giver : goal.returns-clause-giver
@@ -46,9 +44,9 @@ returns-clause-giver c =
     elim c.match-told.branch [
       | in-Some+in-Receives y ↦
           let finds = hands_found hands x.tickets.now x.cells.now y.in-Some.taker y.in-Some.is _ y.look-looked.ensures in
-          y.device-is ∙ rw (finds, y.in-Receives.is, ← told_by hands x.tickets.now x.cells.now) y.note_giver.ensures
+          y.givers-is ∙ rw (finds, y.in-Receives.is, ← told_by hands x.tickets.now x.cells.now) y.note_giver.ensures
       | in-Some+in_default-looked y ↦
           let finds = hands_found hands x.tickets.now x.cells.now y.in-Some.taker y.in-Some.is _ y.look-looked.ensures in
-          rw (finds, finds_none x.w y.in-Some.taker.0 y.look-looked.result y.in_default-looked.not-Receives) y.device-is
-      | in_default y ↦ rw (hands_nobody hands x.tickets.now x.cells.now y.in_default.is) y.device-is
+          rw (finds, finds_none x.w y.in-Some.taker.0 y.look-looked.result y.in_default-looked.not-Receives) y.givers-is
+      | in_default y ↦ rw (hands_nobody hands x.tickets.now x.cells.now y.in_default.is) y.givers-is
     ]

@@ -13,5 +13,5 @@ returns c m =
     let hand = c.hand_on in
     let gone = c.go_to in
     acting gone.new.own (λ a.
-    hand_acts a hand.result hand.new.wait hand.new.device
+    hand_acts a hand.result hand.new.wait hand.new.givers
     hand.ensures.numbers hand.ensures.lock hand.ensures.giver c.requires.1 gone.new.own gone.ensures)

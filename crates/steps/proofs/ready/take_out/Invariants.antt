@@ -8,4 +8,4 @@ use Rattle.steps.proofs.ready.take_out.Given as goal
 
 abbrev pub invariant-loop-i : goal.invariant-loop-i
 invariant-loop-i l =
-    (l.i ≤ l.k) × (length l.device ≡ length l.initial.device) × (shifted READY l.n.ready_at l.device l.i ≡ shifted READY l.n.ready_at l.initial.device l.k)
+    (l.i ≤ l.k) × (length l.ready ≡ length l.initial.ready) × (shifted READY l.n.ready_at l.ready l.i ≡ shifted READY l.n.ready_at l.initial.ready l.k)

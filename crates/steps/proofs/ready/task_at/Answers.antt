@@ -6,4 +6,4 @@ use Rattle.steps.proofs.ready.task_at.Goals as goal
 pub returns : goal.returns
 returns c =
     let x = c.args in
-    let pre = c.requires in record { numbers = refl; meaning = sym (listed_at x.n x.device.now x.k pre.3) }
+    let pre = c.requires in record { numbers = refl; meaning = sym (listed_at x.n x.ready.now x.k pre.3) }
