@@ -102,7 +102,7 @@ by_letter letter fields =
     (either all (eqb letter 'R') (λ p. one_number (rounds_line p) fields) _
     (λ e. one_number_lem all rounds_line (λ n. kinded (order (rounds n)) tt (λ p. refl)) fields)
     (either all (eqb letter 'S') (λ p. two_numbers (seeded_line p) fields) _
-    (λ e. two_numbers_lem all seeded_line (λ s n. kinded (order (seeded s n)) tt (λ p. refl)) fields)
+    (λ e. two_numbers_lem all seeded_line (λ s n. kinded (order (seeded n s)) tt (λ p. refl)) fields)
     no_line)))))
 
 pub kind_of : (fields : List (List ℕ)) → Kinded fields (λ p. line_of_fields p fields)

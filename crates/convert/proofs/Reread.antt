@@ -59,8 +59,8 @@ module _ (n : ℕ) (started : eqb n 0 ≡ false) (own other : Form) where
     alike_kind (order (picks worker m)) =
         alike_asked (first_refusal (picks_line (so_far own ts os) worker m).asks) ts (os ++ picks worker m ∷ [])
     alike_kind (order (rounds m)) = alike_asked (first_refusal (rounds_line (so_far own ts os) m).asks) ts (os ++ rounds m ∷ [])
-    alike_kind (order (seeded seed m)) =
-        alike_asked (first_refusal (seeded_line (so_far own ts os) seed m).asks) ts (os ++ seeded seed m ∷ [])
+    alike_kind (order (seeded m seed)) =
+        alike_asked (first_refusal (seeded_line (so_far own ts os) seed m).asks) ts (os ++ seeded m seed ∷ [])
 
     alike_line : (part : List ℕ)
         → Alike (read_line k (line_of (so_far own ts os) part) next) (read_line k (line_of (so_far other ts os) part) next)
@@ -128,7 +128,7 @@ module _ (text : List ℕ) (p : Plan) where
     begun_kind (mask m) s e = clash (cc)
     begun_kind (order (picks worker n)) s e = clash (cc)
     begun_kind (order (rounds n)) s e = clash (cc)
-    begun_kind (order (seeded seed n)) s e = clash (cc)
+    begun_kind (order (seeded n seed)) s e = clash (cc)
 
   begun_parts : (part : List ℕ) (parts : List (List ℕ)) → split line_feed text ≡ part ∷ parts
       → read_lines empty_plan 1 (part ∷ parts) ≡ accepted p → Begun text p

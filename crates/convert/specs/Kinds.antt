@@ -19,7 +19,7 @@ pub data Kind : Type 0 where
 abbrev pub order_of : Plan → Order → Line
 order_of p (picks worker n) = picks_line p worker n
 order_of p (rounds n) = rounds_line p n
-order_of p (seeded seed n) = seeded_line p seed n
+order_of p (seeded n seed) = seeded_line p seed n
 
 -- the line of a kind, where p has been read before
 abbrev pub line_of_kind : Plan → Kind → Option Line

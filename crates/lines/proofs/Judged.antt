@@ -21,7 +21,7 @@ use Rattle.plan.proofs.Accepted.{granted, ends_some}
 use Rattle.lines.specs.declared.line.Kind.TheVariants as kinds
 use Rattle.lines.specs.declared.line.Sofar.{Sofar}
 use Rattle.lines.specs.declared.line.Line.{Line}
-use Rattle.lines.specs.Lines.{Sums, judged_by, judges, judges_first, ordered}
+use Rattle.lines.specs.Lines.{Sums, judged_by, judges, judges_first, narrowed, ordered}
 use Rattle.lines.proofs.Wholes.{Judged}
 
 -- ---- ranges of a number are those of what 64 bits hold of it
@@ -57,6 +57,13 @@ module _ (m : ℕ) where
   within_low low high h e =
       let top : m ≤ high = leb-true m high (both_right (leb low m) (leb m high) e) in
       (low_clipped (omega arith), top)
+
+  -- and 32 bits hold a number in a range that ends below 2^32
+  narrow_low : (low high : ℕ) → high < 2 ^ 32 → {n kept : ℕ} → n ≡ clipped m → kept ≡ narrowed n
+      → within low high m ≡ true → kept ≡ m
+  narrow_low low high h is narrow e =
+      let (same, top) = within_low low high (omega arith) e in
+      omega (arith, narrow, is, same, top)
 
 -- ---- what is asked, in its order
 
@@ -172,35 +179,37 @@ module _ {s : Sofar} {p : Plan} (sums : Sums s p) {out : Bool} {line : Line} whe
         makes = λ h. rw (same (granted (order_line p range order).asks h).1.0);
       })
 
-  pub rounds_judged : (n : ℕ) {count : ℕ} → count ≡ clipped n → out ≡ not (within 1 1000000 count)
-      → line ≡ ordered (rounds count) (eqb s.workers 0) out → Judged p (rounds_line p n) line
-  rounds_judged n {count} is far =
-      order_judged (within 1 1000000 n) (rounds n) (rounds count) (far ∙ rw is (ap not (range_clipped n 1000000 (omega arith))))
-      (λ h. ap rounds (is ∙ (within_low n 1 1000000 (omega arith) h).0))
+  pub rounds_judged : (n : ℕ) {count kept : ℕ} → count ≡ clipped n → kept ≡ narrowed count → out ≡ not (within 1 1000000 count)
+      → line ≡ ordered (rounds kept) (eqb s.workers 0) out → Judged p (rounds_line p n) line
+  rounds_judged n {count} {kept} is narrow far =
+      order_judged (within 1 1000000 n) (rounds n) (rounds kept) (far ∙ rw is (ap not (range_clipped n 1000000 (omega arith))))
+      (λ h. ap rounds (narrow_low n 1 1000000 (omega arith) is narrow h))
 
   -- a worker or a seed before the count
-  pair_judged : (before : Bool) (n most : ℕ) → most ≤ 1000000 → (make : ℕ → Order) (kept : ℕ → Order) {count : ℕ} → count ≡ clipped n
-      → out ≡ (not before || not (within 1 most count)) → (before ≡ true → kept n ≡ make n)
-      → line ≡ ordered (kept count) (eqb s.workers 0) out → Judged p (order_line p (before && within 1 most n) (make n)) line
-  pair_judged before n most small make kept {count} is far same =
-      order_judged (before && within 1 most n) (make n) (kept count)
+  pair_judged : (before : Bool) (n most : ℕ) → most ≤ 1000000 → (make : ℕ → Order) (kept : ℕ → Order) {count times : ℕ} → count ≡ clipped n
+      → times ≡ narrowed count → out ≡ (not before || not (within 1 most count)) → (before ≡ true → kept n ≡ make n)
+      → line ≡ ordered (kept times) (eqb s.workers 0) out → Judged p (order_line p (before && within 1 most n) (make n)) line
+  pair_judged before n most small make kept {count} {times} is narrow far same =
+      order_judged (before && within 1 most n) (make n) (kept times)
       (far ∙ rw (is, range_clipped n most (omega arith)) (not_both before (within 1 most n)))
       (λ h.
-      let low : count ≡ n = is ∙ (within_low n 1 most (omega arith) (both_right before (within 1 most n) h)).0 in
+      let low : times ≡ n = narrow_low n 1 most (omega arith) is narrow (both_right before (within 1 most n) h) in
       ap kept low ∙ same (both_left before (within 1 most n) h))
 
-  pub picks_judged : s.workers ≤ 32 → (v n : ℕ) {worker count : ℕ} → worker ≡ clipped v → count ≡ clipped n
-      → out ≡ (leb s.workers worker || not (within 1 4096 count))
-      → line ≡ ordered (picks worker count) (eqb s.workers 0) out → Judged p (picks_line p v n) line
-  picks_judged few v n {worker} {count} who is far =
-      pair_judged (ltb v p.workers) n 4096 (omega arith) (picks v) (picks worker) is
-      (far ∙ ap (λ (b : Bool). b || not (within 1 4096 count)) (rw (who, ← sums.workers) (above_clipped v s.workers (omega arith))))
-      (λ h. ap (λ (w : ℕ). picks w n) (who ∙ low_clipped v (omega (arith, sums.workers, ltb-true v p.workers h))))
+  pub picks_judged : s.workers ≤ 32 → (v n : ℕ) {worker count who times : ℕ} → worker ≡ clipped v → count ≡ clipped n
+      → who ≡ narrowed worker → times ≡ narrowed count → out ≡ (leb s.workers worker || not (within 1 4096 count))
+      → line ≡ ordered (picks who times) (eqb s.workers 0) out → Judged p (picks_line p v n) line
+  picks_judged few v n {worker} {count} {who} {times} named is who_is times_is far =
+      pair_judged (ltb v p.workers) n 4096 (omega arith) (picks v) (picks who) is times_is
+      (far ∙ ap (λ (b : Bool). b || not (within 1 4096 count)) (rw (named, ← sums.workers) (above_clipped v s.workers (omega arith))))
+      (λ h.
+      let low : v < 32 = omega (arith, few, sums.workers, ltb-true v p.workers h) in
+      ap (λ (w : ℕ). picks w n) (omega (arith, who_is, named, low_clipped v (omega (arith, low)), low)))
 
-  pub seeded_judged : (v n : ℕ) {seed count : ℕ} {fits : Bool} → seed ≡ clipped v → fits ≡ fits_in v → count ≡ clipped n
-      → out ≡ (not fits || not (within 1 1000000 count))
-      → line ≡ ordered (seeded seed count) (eqb s.workers 0) out → Judged p (seeded_line p v n) line
-  seeded_judged v n {seed} {count} start whole is far =
-      pair_judged (fits_in v) n 1000000 (omega arith) (seeded v) (seeded seed) is
+  pub seeded_judged : (v n : ℕ) {seed count times : ℕ} {fits : Bool} → seed ≡ clipped v → fits ≡ fits_in v → count ≡ clipped n
+      → times ≡ narrowed count → out ≡ (not fits || not (within 1 1000000 count))
+      → line ≡ ordered (seeded times seed) (eqb s.workers 0) out → Judged p (seeded_line p v n) line
+  seeded_judged v n {seed} {count} start whole is narrow far =
+      pair_judged (fits_in v) n 1000000 (omega arith) (λ k. seeded k v) (λ k. seeded k seed) is narrow
       (far ∙ ap (λ (b : Bool). not b || not (within 1 1000000 count)) whole)
-      (λ h. ap (λ (k : ℕ). seeded k n) (start ∙ fits_clipped v h))
+      (λ h. ap (seeded n) (start ∙ fits_clipped v h))

@@ -1,5 +1,5 @@
 -- The code's view of one line: what is answered for its fields.
-use Rattle.std.specs.Prelude.{Result, Ok, Err, ℕ, zero, suc, ◌+◌, ◌≤◌, ◌<◌, ◌≡◌, refl, Bool, true, false, cond, not, ◌&&◌, ◌||◌, List, [], ◌∷◌, length, drop, replicate, leb, ltb}
+use Rattle.std.specs.Prelude.{Result, Ok, Err, ℕ, zero, suc, ◌+◌, ◌-◌, ◌^◌, ◌≤◌, ◌<◌, min, ◌≡◌, refl, Bool, true, false, cond, not, ◌&&◌, ◌||◌, List, [], ◌∷◌, length, drop, replicate, leb, ltb}
 use Rattle.std.proofs.Common.{sym, arith}
 use Rattle.std.proofs.Math.Bool.{and-false}
 use Rattle.std.proofs.Math.Option.{Option, none, some}
@@ -164,6 +164,10 @@ pub record Formed (text : List ℕ) (at : ℕ) (p : Plan) (form : List (List ℕ
   pub whole : IsWhole line.kind
   pub judged : line.judged ≡ judges l
   pub makes : first_refusal l.asks ≡ none → Makes line.kind p l.plan
+
+-- a number as 32 bits hold it
+abbrev pub narrowed : ℕ → ℕ
+narrowed n = min n (2 ^ 32 - 1)
 
 -- an order line, as it was read
 abbrev pub ordered : Order → Bool → Bool → Line

@@ -6,7 +6,7 @@ ghost use Rattle.plan.specs.Plan.{Plan};
 ghost use Rattle.plan.specs.Line.{one_number, two_numbers, in_form, at_start, after_task, sizes_in_range};
 ghost use Rattle.plan.specs.Line.{workers_line, mask_line, rounds_line, picks_line, seeded_line};
 ghost use Rattle.lines.specs.Lines.{Says, number_alone, numbers_alone, both_held, sizes_held};
-ghost use Rattle.lines.specs.Lines.{Sums, judges, judges_first, ordered, Whole, TaskHead, LineAt};
+ghost use Rattle.lines.specs.Lines.{Sums, judges, judges_first, narrowed, ordered, Whole, TaskHead, LineAt};
 
 use kept::tasks::{BLANK, Row};
 use plan::field::read_label;
@@ -203,6 +203,13 @@ fn order_line(order: Order, sofar: Sofar, out: bool) -> Line
     }
 }
 
+// A worker or a count as an order line holds it: none that is in its range is cut.
+fn narrow(n: u64) -> u32
+    ensures { result ≡ narrowed n }
+{
+    n.min(u64::from(u32::MAX)) as u32
+}
+
 // R: rounds.
 fn read_rounds(cursor: &mut Cursor, sofar: Sofar) -> Result<Line, Malformed>
     ensures line { (p : Plan) → Sums sofar p
@@ -211,7 +218,9 @@ fn read_rounds(cursor: &mut Cursor, sofar: Sofar) -> Result<Line, Malformed>
 {
     let count = last_number(cursor)?.value;
     Ok(order_line(
-        Order::Rounds { count },
+        Order::Rounds {
+            count: narrow(count),
+        },
         sofar,
         outside(1, MOST_ROUNDS, count),
     ))
@@ -227,8 +236,8 @@ fn read_picks(cursor: &mut Cursor, sofar: Sofar) -> Result<Line, Malformed>
     let (worker, count) = two_numbers(cursor)?;
     let out = sofar.workers <= worker.value || outside(1, MOST_PICKS, count.value);
     let order = Order::Picks {
-        worker: worker.value,
-        count: count.value,
+        worker: narrow(worker.value),
+        count: narrow(count.value),
     };
     Ok(order_line(order, sofar, out))
 }
@@ -242,8 +251,8 @@ fn read_seeded(cursor: &mut Cursor, sofar: Sofar) -> Result<Line, Malformed>
     let (seed, count) = two_numbers(cursor)?;
     let out = !seed.fits || outside(1, MOST_SEEDED, count.value);
     let order = Order::Seeded {
+        count: narrow(count.value),
         seed: seed.value,
-        count: count.value,
     };
     Ok(order_line(order, sofar, out))
 }

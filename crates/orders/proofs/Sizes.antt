@@ -14,7 +14,7 @@ use Rattle.orders.specs.Sizes.{most_picks}
 order_length : (W : ℕ) (o : Order) → 0 < W → W ≤ 32 → OrderFormed W o → length (picks_of W o) ≤ most_picks
 order_length W (picks worker n) s h f = omega (arith, count_picks W (picks worker n) s)
 order_length W (rounds n) s h f = omega (arith, count_picks W (rounds n) s, mul-le-mul f.1 h)
-order_length W (seeded seed n) s h f = omega (arith, count_picks W (seeded seed n) s)
+order_length W (seeded n seed) s h f = omega (arith, count_picks W (seeded n seed) s)
 
 orders_length : (W : ℕ) (os : List Order) → 0 < W → W ≤ 32 → Each (OrderFormed W) os → length (picks_of_all W os) ≤ length os * most_picks
 unfolding picks_of_all

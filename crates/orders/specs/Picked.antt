@@ -42,7 +42,7 @@ picks_seeded W x (suc n) h =
 pub picks_order : (W : ℕ) (o : Order) → 0 < W → OrderFormed W o → Picks W (picks_of W o)
 picks_order W (picks worker n) h f = picks_replicate W n worker f.0
 picks_order W (rounds n) h f = picks_times W n (numbers_from 0 W) (picks_from_lem W 0 W (omega arith))
-picks_order W (seeded seed n) h f = picks_seeded W seed n h
+picks_order W (seeded n seed) h f = picks_seeded W seed n h
 
 picks_orders : (W : ℕ) (os : List Order) → 0 < W → Each (OrderFormed W) os → Picks W (picks_of_all W os)
 unfolding picks_of_all

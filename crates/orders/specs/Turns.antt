@@ -32,7 +32,7 @@ lines W [] s only i l = absurd (omega arith)
 lines W (picks worker n ∷ os) s only i l = absurd only
 lines W (rounds n ∷ os) s only i l =
     in_turn_append W n (times n (numbers_from 0 W)) (picks_of_all W os) (count_picks W (rounds n) s) (line W n) (lines W os s only) i l
-lines W (seeded seed n ∷ os) s only i l = absurd only
+lines W (seeded n seed ∷ os) s only i l = absurd only
 
 pub picked_in_turn : (limit : ℕ) (p : Plan) → 0 < p.workers → OnlyRounds p.orders → InTurn p.workers (picks_up_to limit p)
 picked_in_turn limit p s only =

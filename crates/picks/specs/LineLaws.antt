@@ -15,12 +15,12 @@ use Rattle.picks.specs.SourceLaws.{turns_length, seeded_length, rounds_in_turn}
 abbrev pub count_of : ℕ → Order → ℕ
 count_of W (picks worker n) = n
 count_of W (rounds n) = n * W
-count_of W (seeded seed n) = n
+count_of W (seeded n seed) = n
 
 pub count_picks : (W : ℕ) (o : Order) → 0 < W → length (picks_of W o) ≡ count_of W o
 count_picks W (picks worker n) h = length-replicate n worker
 count_picks W (rounds n) h = ap length (rounds_in_turn W n h) ∙ turns_length W 0 (n * W)
-count_picks W (seeded seed n) h = seeded_length W seed n
+count_picks W (seeded n seed) h = seeded_length W seed n
 
 -- ---- the source that gives them
 
@@ -31,5 +31,5 @@ module _ (W : ℕ) where
   pub opens_rounds : (n : ℕ) → 0 < W → Opens W (rounds n) (InTurn 0)
   opens_rounds n some = opens (rounds n) (InTurn 0) some (sym (rounds_in_turn W n some)) some
 
-  pub opens_seeded : (seed n : ℕ) → 0 < W → Opens W (seeded seed n) (Seeded seed)
-  opens_seeded seed n some = opens (seeded seed n) (Seeded seed) some refl some
+  pub opens_seeded : (seed n : ℕ) → 0 < W → Opens W (seeded n seed) (Seeded seed)
+  opens_seeded seed n some = opens (seeded n seed) (Seeded seed) some refl some

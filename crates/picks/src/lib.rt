@@ -33,9 +33,9 @@ pub fn count_of(order: Order, workers: u64) -> u64
     ensures { result ≡ length (picks_of workers order) }
 {
     match order {
-        Order::Picks { count, .. } => count,
-        Order::Rounds { count } => count * workers,
-        Order::Seeded { count, .. } => count,
+        Order::Picks { count, .. } => u64::from(count),
+        Order::Rounds { count } => u64::from(count) * workers,
+        Order::Seeded { count, .. } => u64::from(count),
     }
 }
 
@@ -45,7 +45,7 @@ impl From<Order> for Source {
 
     fn from(order: Order) -> Source {
         match order {
-            Order::Picks { worker, .. } => Source::Same(worker),
+            Order::Picks { worker, .. } => Source::Same(u64::from(worker)),
             Order::Rounds { .. } => Source::InTurn(0),
             Order::Seeded { seed, .. } => Source::Seeded(seed),
         }

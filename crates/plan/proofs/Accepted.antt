@@ -235,7 +235,7 @@ module _ (p : Plan) (h : Begun p) (k : ℕ) where
 
   keeps_seeded : (seed n : ℕ) → 4 ≤ k → Keeps (some (seeded_line p seed n))
   keeps_seeded seed n =
-      keeps_order _ (seeded seed n) (λ e. let (a, b) = both _ _ e in let (l, u) = within_bounds 1 1000000 n b in (ltb-true _ _ a, l, u))
+      keeps_order _ (seeded n seed) (λ e. let (a, b) = both _ _ e in let (l, u) = within_bounds 1 1000000 n b in (ltb-true _ _ a, l, u))
 
   -- ---- by the fields after the first
 

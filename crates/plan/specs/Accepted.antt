@@ -25,7 +25,7 @@ pub record TaskFormed (W : ℕ) (t : Task) : Type 0 where
 abbrev pub OrderFormed : ℕ → Order → Type 0
 OrderFormed W (picks worker n) = (worker < W) × (1 ≤ n) × (n ≤ 4096)
 OrderFormed W (rounds n) = (1 ≤ n) × (n ≤ 1000000)
-OrderFormed W (seeded seed n) = (seed < 2 ^ 64) × (1 ≤ n) × (n ≤ 1000000)
+OrderFormed W (seeded n seed) = (seed < 2 ^ 64) × (1 ≤ n) × (n ≤ 1000000)
 
 pub record WellFormed (p : Plan) : Type 0 where
   pub workers_some : 1 ≤ p.workers

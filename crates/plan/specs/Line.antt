@@ -97,7 +97,7 @@ abbrev pub rounds_line : Plan → ℕ → Line
 rounds_line p n = order_line p (within 1 1000000 n) (rounds n)
 
 abbrev pub seeded_line : Plan → ℕ → ℕ → Line
-seeded_line p seed n = order_line p (nat_lt seed (2 ^ 64) && within 1 1000000 n) (seeded seed n)
+seeded_line p seed n = order_line p (nat_lt seed (2 ^ 64) && within 1 1000000 n) (seeded n seed)
 
 -- ---- the form of a line: its fields
 

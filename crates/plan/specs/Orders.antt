@@ -25,7 +25,7 @@ seeded_picks W x (suc n) = (next_state x / 2 ^ 32 % W) ∷ seeded_picks W (next_
 abbrev pub picks_of : ℕ → Order → List ℕ
 picks_of W (picks worker n) = replicate n worker
 picks_of W (rounds n) = times n (numbers_from 0 W)
-picks_of W (seeded seed n) = seeded_picks W seed n
+picks_of W (seeded n seed) = seeded_picks W seed n
 
 unfoldable pub picks_of_all : ℕ → List Order → List ℕ
 picks_of_all W [] = []
@@ -36,7 +36,7 @@ abbrev pub OnlyRounds : List Order → Type 0
 OnlyRounds [] = Unit {0}
 OnlyRounds (picks worker n ∷ os) = ⊥
 OnlyRounds (rounds n ∷ os) = OnlyRounds os
-OnlyRounds (seeded seed n ∷ os) = ⊥
+OnlyRounds (seeded n seed ∷ os) = ⊥
 
 -- the picks of a plan, cut at a limit
 abbrev pub picks_up_to : ℕ → Plan → List ℕ

@@ -5,8 +5,8 @@ use Rattle.picks.specs.LineLaws.{count_picks}
 use Rattle.picks.proofs.count_of.Goals as goal
 
 pub returns-in-Rounds : goal.returns-in-Rounds
-returns-in-Rounds c = rw c.in-Rounds.is (sym (count_picks c.args.workers (rounds c.in-Rounds.count) c.requires.0))
+returns-in-Rounds c = rw (c.in-Rounds.is, c.from-in-Rounds.ensures) (sym (count_picks c.args.workers (rounds c.in-Rounds.count) c.requires.0))
 
 pub returns-in-Seeded : goal.returns-in-Seeded
 returns-in-Seeded c =
-    rw c.in-Seeded.is (sym (count_picks c.args.workers (seeded c.in-Seeded.seed c.in-Seeded.count) c.requires.0))
+    rw (c.in-Seeded.is, c.from-in-Seeded.ensures) (sym (count_picks c.args.workers (seeded c.in-Seeded.count c.in-Seeded.seed) c.requires.0))

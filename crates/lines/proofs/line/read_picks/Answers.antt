@@ -26,4 +26,5 @@ returns-clause-line c p sums =
     ] in
     two_formed (picks_line p) read.ensures.fields
     (λ v n e f.
-    picks_judged sums c.requires v n (ap (λ (k : Number). k.value) e) (ap (λ (k : Number). k.value) f) out c.order_line.ensures)
+    picks_judged sums c.requires v n (ap (λ (k : Number). k.value) e) (ap (λ (k : Number). k.value) f) c.narrow.ensures c.narrow-2.ensures out
+    c.order_line.ensures)

@@ -14,4 +14,4 @@ returns-in_err-count-clause-line c p sums =
 pub returns-clause-line : goal.returns-clause-line
 returns-clause-line c p sums =
     one_formed (rounds_line p) c.in_ok-count.ensures.field
-    (λ n e. rounds_judged sums n (ap (λ (k : Number). k.value) e) c.outside.ensures c.order_line.ensures)
+    (λ n e. rounds_judged sums n (ap (λ (k : Number). k.value) e) c.narrow.ensures c.outside.ensures c.order_line.ensures)

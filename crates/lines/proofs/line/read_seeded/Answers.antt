@@ -26,5 +26,5 @@ returns-clause-line c p sums =
     ] in
     two_formed (seeded_line p) read.ensures.fields
     (λ v n e f.
-    seeded_judged sums v n (ap (λ (k : Number). k.value) e) (ap (λ (k : Number). k.fits) e) (ap (λ (k : Number). k.value) f) out
-    c.order_line.ensures)
+    seeded_judged sums v n (ap (λ (k : Number). k.value) e) (ap (λ (k : Number). k.fits) e) (ap (λ (k : Number). k.value) f) c.narrow.ensures
+    out c.order_line.ensures)
