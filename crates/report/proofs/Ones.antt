@@ -1,8 +1,7 @@
 -- The ones of the first masks of a list, added one after the other, and how many they are at most. Assumes nothing.
-use Rattle.std.specs.Prelude.{ℕ, zero, suc, ◌+◌, ◌*◌, ◌^◌, ◌≤◌, ◌<◌, ◌≡◌, refl, List, [], ◌∷◌, length, take, get_or}
-use Rattle.std.proofs.Common.{arith, ap, ◌∙◌, take-suc}
-use Rattle.std.specs.List.{fold}
-use Rattle.std.proofs.lemmas.List.Sums.{fold-append}
+use Rattle.std.specs.Prelude.{ℕ, ◌+◌, ◌*◌, ◌^◌, ◌≤◌, ◌<◌, ◌≡◌, List, length, take, get_or}
+use Rattle.std.proofs.Common.{arith, add-one, ap}
+use Rattle.std.proofs.lemmas.List.{get_or-take, length-take-le}
 use Rattle.std.specs.Int.Count.{ones}
 use lib.Count.{ones-le}
 use Rattle.runs.specs.Sums.{sum, sum_le, sum_const}
@@ -13,9 +12,12 @@ pub few_ones : (masks : List ℕ) (n : ℕ) → ((i : ℕ) → i < n → get_or 
 few_ones masks n h =
     omega (arith, sum_le n (λ i. ones (get_or masks i 0)) (λ i. 32) (λ i l. ones-le 32 (get_or masks i 0) (h i l)), sum_const n 32)
 
-pub folded : (masks : List ℕ) (n : ℕ) → n ≤ length masks → fold (λ a x. a + ones x) 0 (take n masks) ≡ ones_of masks n
+pub ones_more : (masks : List ℕ) (i : ℕ) → ones_of masks (i + 1) ≡ ones_of masks i + ones (get_or masks i 0)
 unfolding sum
-folded masks zero h = refl
-folded masks (suc n) h =
-    ap (fold (λ a x. a + ones x) 0) (take-suc masks n 0 h) ∙ fold-append (λ a x. a + ones x) 0 (take n masks) (get_or masks n 0 ∷ [])
-    ∙ ap (λ k. k + ones (get_or masks n 0)) (folded masks n (omega arith))
+ones_more masks i = ap (ones_of masks) (add-one i)
+
+-- a place among the first n masks
+pub first_masks : (masks : List ℕ) (n i : ℕ) → n ≤ length masks → i < length (take n masks) → (i < n) × (get_or (take n masks) i 0 ≡ get_or masks i 0)
+first_masks masks n i h l =
+    let low : i < n = omega (arith, length-take-le n masks h) in
+    (low, get_or-take n masks i 0 low)

@@ -41,10 +41,11 @@ pub fn total_permitted(masks: &[u64], n: usize) -> u64
     ensures numbers { result ≡ ones_of masks.now n }
     ensures meaning { (c : Setup) → n ≡ length c.tasks → Masks c masks.now → result ≡ total_permitted c }
 {
-    masks[..n]
-        .iter()
-        .map(|mask| u64::from(mask.count_ones()))
-        .sum()
+    let mut total: u64 = 0;
+    for mask in &masks[..n] {
+        total += u64::from((*mask as u32).count_ones());
+    }
+    total
 }
 
 // Writes a task's line, with its label out of the plan's text.

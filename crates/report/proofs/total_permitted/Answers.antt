@@ -1,28 +1,51 @@
--- `report::total_permitted` meets its contract: the chain's sum is that of the ones, and masks of 32 bits have
--- at most 32 each. Assumes nothing.
-use Rattle.std.proofs.Common.{rules, arith, ◌≡◌, ◌+◌, ◌^◌, ◌<◌, take, ap, ◌∙◌}
-use Rattle.std.specs.List.{fold}
+-- `report::total_permitted` meets its contract: each mask has at most 32 ones. Assumes nothing.
+use Rattle.std.proofs.Common.{arith, ◌≡◌, refl, ap, ◌∙◌}
+use Rattle.std.proofs.lemmas.List.{length-take-le}
 use Rattle.std.specs.Int.Count.{ones}
+use lib.Count.{ones-le}
+use lib.ListN.{get_or}
+use Rattle.runs.specs.Sums.{sum}
 use Rattle.report.specs.Totals.{ones_of, total_ones}
-use Rattle.report.proofs.Ones.{few_ones, folded}
+use Rattle.report.proofs.Ones.{few_ones, ones_more, first_masks}
 use Rattle.report.proofs.total_permitted.Goals as goal
 
-numbers : (c : goal.After-sum) → c.sum.result ≡ ones_of c.args.masks.now c.args.n
-numbers c =
-    let told : c.sum.result ≡ fold (λ a x. a + ones x) 0 (take c.args.n c.args.masks.now) = search rules in
-    told ∙ folded c.args.masks.now c.args.n c.requires.1
+pub loop-mask-init : goal.loop-mask-init
+unfolding sum
+loop-mask-init c = refl
 
-pub sum-requires-clause-fits : goal.sum-requires-clause-fits
-sum-requires-clause-fits c =
-    let (few, inside, low) = c.requires in
+pub overflow_add-total : goal.overflow_add-total
+overflow_add-total c =
+    let i = c.loop-mask.mask-index in
     let masks = c.args.masks.now in
-    let fits : fold (λ a x. a + ones x) 0 (take c.args.n masks) < 2 ^ 64 =
-    omega (arith, folded masks c.args.n inside, few_ones masks c.args.n low) in
-    search rules
+    let (few, inside, low) = c.requires in
+    let (first, same) = first_masks masks c.args.n i inside c.loop-mask-test.true in
+    omega (
+      arith,
+      same,
+      ap ones same,
+      few,
+      first,
+      ones-le 32 (get_or masks i 0) (low i first),
+      few_ones masks i (λ k l. low k (omega arith)),
+      c.loop-mask.invariant,
+      c.from-total.ensures,
+    )
+
+pub loop-mask-preserved : goal.loop-mask-preserved
+loop-mask-preserved c =
+    let i = c.loop-mask.mask-index in
+    let masks = c.args.masks.now in
+    let (first, same) = first_masks masks c.args.n i c.requires.1 c.loop-mask-test.true in
+    omega (arith, c.loop-mask.invariant, ap ones same, ones_more masks i, c.from-total.ensures)
 
 pub returns-clause-numbers : goal.returns-clause-numbers
-returns-clause-numbers = numbers
+returns-clause-numbers c =
+    let all : c.loop-mask.mask-index ≡ c.args.n =
+    omega (arith, length-take-le c.args.n c.args.masks.now c.requires.1, c.loop-mask-test.false, c.loop-mask.auto.mask-index-end) in
+    c.loop-mask.invariant ∙ ap (ones_of c.args.masks.now) all
 
 pub returns-clause-meaning : goal.returns-clause-meaning
 returns-clause-meaning c x n h =
-    numbers c ∙ ap (ones_of c.args.masks.now) n ∙ total_ones x c.args.masks.now h
+    let all : c.loop-mask.mask-index ≡ c.args.n =
+    omega (arith, length-take-le c.args.n c.args.masks.now c.requires.1, c.loop-mask-test.false, c.loop-mask.auto.mask-index-end) in
+    c.loop-mask.invariant ∙ ap (ones_of c.args.masks.now) (all ∙ n) ∙ total_ones x c.args.masks.now h
