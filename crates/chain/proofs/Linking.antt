@@ -1,5 +1,5 @@
 -- One task more is linked, by its row. Assumes nothing.
-use Rattle.std.specs.Prelude.{ℕ, suc, ◌+◌, ◌^◌, ◌<◌, ◌≡◌, List, length, get_or, set}
+use Rattle.std.specs.Prelude.{ℕ, suc, ◌+◌, ◌^◌, ◌-◌, ◌<◌, ◌≡◌, List, length, get_or, set}
 use Rattle.std.proofs.Common.{arith}
 use Rattle.runs.specs.Stores.{get_d_any}
 use Rattle.plan.specs.Plan.{Task}
@@ -10,6 +10,10 @@ use Rattle.chain.proofs.Short.{follow_cheap}
 use Rattle.chain.specs.declared.link.Link.{Link}
 use Rattle.chain.specs.Links.{Kept, IsRow, Found, Known}
 use Rattle.chain.proofs.Scan.{known_more}
+
+-- the code counts down: what is known from i on is known behind i - 1
+pub known_behind : {ts : List Task} {links : List Link} (i : ℕ) → 0 < i → Known ts links i → Known ts links (suc (i - 1))
+known_behind i some known j l low = known j (omega arith) low
 
 module _ {rows : List Row} {ts : List Task} (kept : Kept rows ts) (i : ℕ) (below : i < length rows) where
   low : i < length ts

@@ -9,7 +9,7 @@ use Rattle.tasks.specs.History.{Can, can_give, can_hold, gives, holds, after}
 use Rattle.memory.specs.Shares.{Stored}
 use Rattle.memory.specs.Rows.{held_rows}
 use Rattle.memory.specs.Memory.{TaskMemory, memory, Able, HeldAfter, unfinished}
-use Rattle.memory.specs.RowLaws.{row_set}
+use Rattle.memory.specs.RowLaws.{status_set}
 use Rattle.duties.specs.FromTasks.{given_within}
 use Rattle.duties.proofs.Held.{own_stored, stored_now, stored_still, pending_still, left_now}
 use Rattle.duties.proofs.Given.{row_fits}
@@ -44,9 +44,8 @@ module _ {m : TaskMemory} {own : List ℕ} {w : ℕ} (a : Able m own w) where
         tasks = h.tasks;
         stored = stored_still a own (a.st w) (own_stored a);
         task_rows_lem =
-            row_set a.ts _ _ _ _ _ _ h.task_rows_lem i (row_fits a.fit a.long i within) _ a.t.count (upd a.t.status i held) a.t.runner
-            a.t.receipt a.t.ending (λ l. rw (h.task_rows_lem i l, upd_same a.t.status i held))
-            (λ j d. rw (upd_other a.t.status i held j d));
+            status_set a.ts m.rows a.t.count a.t.status a.t.runner a.t.receipt a.t.ending h.task_rows_lem i
+            (row_fits a.fit a.long i within) held;
         access_rows_lem = h.access_rows_lem;
         creation = h.creation;
         left = omega (arith, ap unfinished ready, left_now a i within held);

@@ -25,7 +25,7 @@ use Rattle.memory.specs.declared.rows.TaskRow.{TaskRow}
 use Rattle.memory.specs.declared.rows.Status.TheVariants.{Ready}
 use Rattle.memory.specs.Shares.{Stored}
 use Rattle.duties.proofs.Flagging.{rights_of}
-use Rattle.memory.specs.RowLaws.{row_set}
+use Rattle.memory.specs.RowLaws.{row_set, count_set}
 
 -- ---- a task's count falls
 
@@ -67,10 +67,8 @@ module _ (ts : List Task) (rows : List TaskRow) (s : Tasks) (w i x : ℕ) (fits 
       → TaskRows ts (set rows i (counted row (row.count - x) row.status)) (lowered s w i x).count (lowered s w i x).status s.runner s.receipt
       s.ending
   rows_above l =
-      let n = s.count i - x in
-      rw (lowered_above s w i x (omega (arith, stands)))
-      (row_set ts rows s.count s.status s.runner s.receipt s.ending h i fits _ (upd s.count i n) s.status s.runner s.receipt s.ending
-      (λ b. rw (h i b, upd_same s.count i n)) (λ j d. rw (upd_other s.count i n j d)))
+      rw (lowered_above s w i x (omega (arith, stands)), stands)
+      (count_set ts rows s.count s.status s.runner s.receipt s.ending h i fits (s.count i - x))
 
   pub rows_none : row.count ≡ 0
       → TaskRows ts rows (lowered s w i x).count (lowered s w i x).status s.runner s.receipt s.ending

@@ -18,7 +18,7 @@ use Rattle.tasks.specs.History as Th
 use Rattle.tasks.specs.History.{Op, Can, can_take, can_receive, takes, receives, plain, done_messages}
 use Rattle.memory.specs.Layout as layout
 use Rattle.memory.specs.Shares.{Stored}
-use Rattle.memory.specs.Rows.{task_row, TaskRows, received_rows}
+use Rattle.memory.specs.Rows.{task_row, TaskRows, counted, timed, received_rows}
 use Rattle.memory.specs.declared.rows.TaskRow.{TaskRow}
 use Rattle.memory.specs.declared.rows.Status.TheVariants.{Over}
 use Rattle.memory.specs.Memory.{TaskMemory, memory, HoldsTasks, Able, HeldAfter, unfinished, notices, its_duty}
@@ -136,18 +136,7 @@ module _ {m : TaskMemory} {own : List ℕ} {w : ℕ} (a : Able m own w) where
 -- the rows of the tasks
 abbrev pub ended_rows : List TaskRow → ℕ → ℕ → List TaskRow
 ended_rows rows i time =
-    let row = task_row rows i in
-    set rows i
-    (record {
-      count = row.count;
-      status = Over;
-      runner = row.runner;
-      receipt = row.receipt;
-      ending = time;
-      cost = row.cost;
-      first = row.first;
-      accesses = row.accesses;
-    })
+    let row = task_row rows i in set rows i (timed (counted row row.count Over) row.runner row.receipt time)
 
 -- the numbers, with so many messages
 abbrev pub ended_tally : Tally → ℕ → Tally

@@ -10,14 +10,19 @@ use mathlib.Core.List.{map-append}
 use Rattle.runs.specs.Update.{order}
 use Rattle.runs.specs.Stores.{get_d_any, sets_append, sets_at, set_sets}
 use Rattle.plan.specs.Plan.{Task, mask_last}
+use Rattle.plan.specs.declared.access.Access.{Access}
 use Rattle.plan.specs.Accepted.{Each}
 use Rattle.plan.proofs.Accepted.{each_more}
 use Rattle.kept.specs.Layout as layout
 use Rattle.kept.specs.declared.tasks.Row.{Row}
-use Rattle.kept.specs.Tasks.{Placed, no_access, row_of, Labelled, KeepsTasks, blank, row_at, masked_row, with_mask, TaskIn, HasTasks}
+use Rattle.kept.specs.Tasks.{Placed, no_access, spread, row_of, Labelled, KeepsTasks, blank, row_at, masked_row, with_mask, TaskIn, HasTasks}
 
 abbrev Few : Placed → Type 0
 Few t = length t.task.accesses ≤ layout.most_task_accesses
+
+-- access k among the accesses of a row
+pub access_at : (xs : List Access) (k : ℕ) (d : Access) → k < length xs → get_or (spread xs) k d ≡ get_or xs k d
+access_at xs k d l = get_or-append xs (replicate (layout.most_task_accesses - length xs) no_access) d k l
 
 -- ---- the last task with a mask
 
@@ -162,8 +167,7 @@ module _ {text : List ℕ} {rows : List Row} {ts : List Task} {after : List Row}
         cost = rw row refl;
         mask = rw row refl;
         count = rw row refl;
-        accesses = λ k b a.
-            rw row (get_or-append t.task.accesses (replicate (layout.most_task_accesses - length t.task.accesses) no_access) a k b);
+        accesses = λ k b a. rw row (access_at t.task.accesses k a b);
       }
 
 pub has_tasks : {text : List ℕ} {rows : List Row} {ts : List Task} {after : List Row} → KeepsTasks text rows ts after

@@ -7,7 +7,7 @@ use Rattle.tasks.specs.Flags.{Flags, flag_number}
 use Rattle.tasks.specs.Tasks.{Status}
 use Rattle.tasks.specs.Accesses.{total}
 use Rattle.memory.specs.Codes.{status_of, reader_number}
-use Rattle.memory.specs.Rows.{no_task, no_access, access_row, row_of, TaskRows, AccessRows, flagged_rows, outcome_at}
+use Rattle.memory.specs.Rows.{no_task, no_access, task_row, access_row, row_of, TaskRows, AccessRows, counted, timed, flagged_rows, outcome_at}
 use Rattle.memory.specs.declared.rows.TaskRow.{TaskRow}
 use Rattle.memory.specs.declared.rows.AccessRow.{AccessRow}
 
@@ -34,6 +34,39 @@ module _ (ts : List Task) (rows : List TaskRow) (counts : ℕ → ℕ) (statuses
       field_set no_task (length ts) rows i row fits (λ x. x)
       (λ j. row_of ts j (counts j) (statuses j) (runners j) (receipts j) (endings j))
       (λ j. row_of ts j (counts' j) (statuses' j) (runners' j) (receipts' j) (endings' j)) here there r
+
+  -- one field of its row alone is stored
+  abbrev row : TaskRow
+  row = task_row rows i
+
+  pub count_set : (v : ℕ) → TaskRows ts (set rows i (counted row v row.status)) (upd counts i v) statuses runners receipts endings
+  count_set v =
+      row_set _ (upd counts i v) statuses runners receipts endings (λ l. rw (r i l, upd_same counts i v))
+      (λ j d. rw (upd_other counts i v j d))
+
+  pub status_set : (x : Status)
+      → TaskRows ts (set rows i (counted row row.count (status_of x))) counts (upd statuses i x) runners receipts endings
+  status_set x =
+      row_set _ counts (upd statuses i x) runners receipts endings (λ l. rw (r i l, upd_same statuses i x))
+      (λ j d. rw (upd_other statuses i x j d))
+
+  pub runner_set : (v : ℕ)
+      → TaskRows ts (set rows i (timed row v row.receipt row.ending)) counts statuses (upd runners i v) receipts endings
+  runner_set v =
+      row_set _ counts statuses (upd runners i v) receipts endings (λ l. rw (r i l, upd_same runners i v))
+      (λ j d. rw (upd_other runners i v j d))
+
+  pub receipt_set : (v : ℕ)
+      → TaskRows ts (set rows i (timed row row.runner v row.ending)) counts statuses runners (upd receipts i v) endings
+  receipt_set v =
+      row_set _ counts statuses runners (upd receipts i v) endings (λ l. rw (r i l, upd_same receipts i v))
+      (λ j d. rw (upd_other receipts i v j d))
+
+  pub ending_set : (v : ℕ)
+      → TaskRows ts (set rows i (timed row row.runner row.receipt v)) counts statuses runners receipts (upd endings i v)
+  ending_set v =
+      row_set _ counts statuses runners receipts (upd endings i v) (λ l. rw (r i l, upd_same endings i v))
+      (λ j d. rw (upd_other endings i v j d))
 
 module _ (ts : List Task) (rows : List AccessRow) (flags : ℕ → Flags) (r : AccessRows ts rows flags) (a : ℕ) (fits : a < length rows) where
   -- what is not stored to

@@ -78,24 +78,27 @@ counted row count status =
       accesses = row.accesses;
     }
 
+-- with another runner, receipt and ending
+abbrev pub timed : TaskRow → ℕ → ℕ → ℕ → TaskRow
+timed row runner receipt ending =
+    record {
+      count = row.count;
+      status = row.status;
+      runner = runner;
+      receipt = receipt;
+      ending = ending;
+      cost = row.cost;
+      first = row.first;
+      accesses = row.accesses;
+    }
+
 -- with task i held out, and with it received by worker w at a time
 abbrev pub held_rows : List TaskRow → ℕ → List TaskRow
 held_rows rows i = let row = task_row rows i in set rows i (counted row row.count Held)
 
 abbrev pub received_rows : List TaskRow → ℕ → ℕ → ℕ → List TaskRow
 received_rows rows i w time =
-    let row = task_row rows i in
-    set rows i
-    (record {
-      count = row.count;
-      status = Running;
-      runner = w;
-      receipt = time;
-      ending = row.ending;
-      cost = row.cost;
-      first = row.first;
-      accesses = row.accesses;
-    })
+    let row = task_row rows i in set rows i (timed (counted row row.count Running) w time row.ending)
 
 -- with flags of access a
 abbrev pub flagged_rows : List AccessRow → ℕ → ℕ → List AccessRow

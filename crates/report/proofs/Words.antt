@@ -6,6 +6,7 @@ use Rattle.std.specs.Ordering.{partial_le}
 use Rattle.memory.specs.contracts.rows.StatusPartialOrd.TheImpl.{partial_cmp-value}
 use mathlib.Core.Option.{Option, none, some}
 use lib.Dec.{leb}
+use native.Mathlib.Omega.{arith}
 use Rattle.text.specs.Text.{number_if, number_or_none}
 use Rattle.text.specs.Writers.{option_field}
 use Rattle.tasks.specs.Tasks.{Status, new, waiting, ready, held, running, over, stage}
@@ -44,21 +45,12 @@ name_is x y s e q = ap status_name (sym (told x) ∙ ap read (e ∙ q) ∙ told 
 abbrev pub from : RustStatus → RustStatus → Bool
 from = partial_le (partial_cmp-value).it
 
-from_running : (x : Status) → from Running (status_of x) ≡ leb (stage running) (stage x)
-from_running new = refl
-from_running waiting = refl
-from_running ready = refl
-from_running held = refl
-from_running running = refl
-from_running over = refl
+from_stage : (first x : Status) → from (status_of first) (status_of x) ≡ leb (stage first) (stage x)
+from_stage first x = grind arith
 
-from_over : (x : Status) → from Over (status_of x) ≡ leb (stage over) (stage x)
-from_over new = refl
-from_over waiting = refl
-from_over ready = refl
-from_over held = refl
-from_over running = refl
-from_over over = refl
+pub known_from_lem : (first x : Status) (s : RustStatus) → status_of x ≡ s → (k : ℕ)
+    → known_from first x k ≡ number_if (from (status_of first) s) k
+known_from_lem first x s e k = rw (← e, from_stage first x) refl
 
 shown_if : (b : Bool) (k : ℕ) → number_if b k ≡ option_field (then_some b k)
 shown_if true k = refl
@@ -66,10 +58,10 @@ shown_if false k = refl
 
 module _ (x : Status) (k : ℕ) {s : RustStatus} (e : status_of x ≡ s) {b : Bool} {n : RustOption ℕ} where
   pub known_running : b ≡ from Running s → n ≡ then_some b k → known_from running x k ≡ option_field n
-  known_running h g = rw (g, ← shown_if b k, h, ← e, from_running x)
+  known_running h g = rw (g, ← shown_if b k, h) (known_from_lem running x s e k)
 
   pub known_over : b ≡ from Over s → n ≡ then_some b k → known_from over x k ≡ option_field n
-  known_over h g = rw (g, ← shown_if b k, h, ← e, from_over x)
+  known_over h g = rw (g, ← shown_if b k, h) (known_from_lem over x s e k)
 
 pub giver_shown : (o : Option ℕ) → number_or_none o ≡ option_field (option_of o)
 giver_shown none = refl

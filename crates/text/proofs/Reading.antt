@@ -13,7 +13,7 @@ use Rattle.text.specs.declared.read.Malformed.{Malformed}
 use Rattle.text.specs.declared.read.Number.{Number}
 use Rattle.text.specs.Text.{tab, line_feed, is_digit, value_after, number_of}
 use Rattle.text.specs.LineEnds.{NONE, after_look, seen_at, is_line_feed}
-use Rattle.text.specs.Fields.{malformed, ended, fits_in, held, ReadNumber, digit_seen, digit_after, more_of, MoreDigits}
+use Rattle.text.specs.Fields.{malformed, ended, fits_in, held, Clipped, ReadNumber, digit_seen, digit_after, more_of, MoreDigits}
 use Rattle.text.proofs.LineEnds.{look_within}
 use Rattle.text.proofs.FieldLaws.{byte_within, answers_end, answers_empty, answers_on, answers_bad}
 
@@ -25,6 +25,9 @@ held_more n d =
     (λ e. ways (fits_in (n * 10 + d)) (λ f. simp (e, f)) (λ f. simp (e, f)))
     (λ e. let f : fits_in (n * 10 + d) ≡ false = le-ltb (n * 10 + d) (2 ^ 64) (omega (arith, ltb-false n (2 ^ 64) e)) in
     simp (e, f))
+
+pub held_clipped : (n : ℕ) → Clipped (held n)
+held_clipped n e = simp e
 
 -- ---- what is seen
 
