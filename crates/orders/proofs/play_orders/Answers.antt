@@ -1,4 +1,4 @@
--- `play_orders` meets its contract.
+-- `play_orders` meets its contract. The goal of the loop stands first: its refusal tells which line is not played as it should be.
 use native.Mathlib.Omega.{arith}
 use mathlib.Core.Path.{sym, ◌∙◌}
 use Rattle.steps.specs.Memory.{share}
@@ -9,6 +9,12 @@ use Rattle.orders.proofs.play_orders.Goals.{then-n-limit-via-then-n-limit, then-
 
 pub loop-order-init : goal.loop-order-init
 loop-order-init c = plays_start
+
+pub loop-order-preserved : goal.loop-order-preserved
+loop-order-preserved c =
+    let line = c.play_line-n in
+    plays_line c.loop-order.invariant c.loop-order-test.true c.from.ensures c.count_of-count.ensures c.min-end.ensures
+    (memory_of line.result line.new.arrays) line.new.store line.auto.store line.ensures.later line.ensures.held
 
 pub count_of-count-requires : goal.count_of-count-requires
 count_of-count-requires c = line_formed_here c.loop-order.invariant c.loop-order-test.true c.requires
@@ -35,12 +41,6 @@ returns-then-n-limit c =
           (λ k s h. sym w.if-is_finished.true ∙ w.is_finished.ensures.meaning then k s (share line.new.store) h)
     ] in
     record { held = played.0; later = played.1 }
-
-pub loop-order-preserved : goal.loop-order-preserved
-loop-order-preserved c =
-    let line = c.play_line-n in
-    plays_line c.loop-order.invariant c.loop-order-test.true c.from.ensures c.count_of-count.ensures c.min-end.ensures
-    (memory_of line.result line.new.arrays) line.new.store line.auto.store line.ensures.later line.ensures.held
 
 pub returns : goal.returns
 returns c =

@@ -24,6 +24,24 @@ loop-digit-init c =
       λ r n so. number_digit self.text.now self.at self.within digit (rw (seen.counted, seen.text) at so),
     )
 
+pub loop-digit-preserved : goal.loop-digit-preserved
+loop-digit-preserved c =
+    let l = c.loop-digit in
+    let i = l.invariant in
+    let seen = c.look-seen.ensures in
+    let d = c.in-Some-digit_of.digit in
+    let digit = rw seen.byte at (sym c.digit_of-in-loop-digit.ensures ∙ c.in-Some-digit_of.is) in (
+      i.0 * 10 + d,
+      c.with_digit-number.ensures ∙ rw i.1 (held_more i.0 d),
+      omega (arith, i.2),
+      λ e. absurd (c.if-leading-eq0.false e),
+      seen.text ∙ i.4,
+      λ r n so.
+          i.5 r n
+          (more_digit i.0 l.self.text.now l.self.at l.self.within digit (λ z. c.if-leading-eq0.false (omega (arith, i.2, z)))
+          (rw (seen.counted, seen.text) at so)),
+    )
+
 pub returns-in_default-digit_of-clause-field : goal.returns-in_default-digit_of-clause-field
 returns-in_default-digit_of-clause-field c =
     let l = c.loop-digit in
@@ -42,21 +60,3 @@ returns-then-leading-eq0-clause-field c =
     rw seen.counted
     (i.5 _ _ (more_leading i.0 l.self.text.now l.self.at l.self.within
     (rw seen.byte at (sym c.digit_of-in-loop-digit.ensures ∙ c.in-Some-digit_of.is)) (i.3 c.if-leading-eq0.true)))
-
-pub loop-digit-preserved : goal.loop-digit-preserved
-loop-digit-preserved c =
-    let l = c.loop-digit in
-    let i = l.invariant in
-    let seen = c.look-seen.ensures in
-    let d = c.in-Some-digit_of.digit in
-    let digit = rw seen.byte at (sym c.digit_of-in-loop-digit.ensures ∙ c.in-Some-digit_of.is) in (
-      i.0 * 10 + d,
-      c.with_digit-number.ensures ∙ rw i.1 (held_more i.0 d),
-      omega (arith, i.2),
-      λ e. absurd (c.if-leading-eq0.false e),
-      seen.text ∙ i.4,
-      λ r n so.
-          i.5 r n
-          (more_digit i.0 l.self.text.now l.self.at l.self.within digit (λ z. c.if-leading-eq0.false (omega (arith, i.2, z)))
-          (rw (seen.counted, seen.text) at so)),
-    )
