@@ -2,12 +2,13 @@
  * A C caller of the bench, the converters, the longest chain and the lock, by the
  * header alone: the paper's listing, refusals, what is left in store and output, a
  * task tied to a worker, locks that nobody owns, the listing moved to the other form
- * and back, longest chains, and some turns of the lock.
+ * and back, longest chains, some turns of the lock, and the stack that the header names.
  * Buffers are taken from the heap in their exact sizes, so that a memory checker
  * sees a step past their ends.
  */
 #include "salfunye.h"
 
+#include <pthread.h>
 #include <stdio.h>
 #include <stdlib.h>
 #include <string.h>
@@ -368,6 +369,59 @@ static void lock(void) {
     EXPECT(handed.kind == 0 && handed.let_in == 0 && handed.by == 0);
 }
 
+/* A plan of as many tasks, and then of as many order lines, as there is room for. */
+static uint8_t *longest_plan(size_t tasks, size_t *size) {
+    char *plan = taken(SALFUNYE_TEXT_SIZE);
+    size_t end = (size_t)sprintf(plan, "W\t2\n");
+    for (size_t i = 0; i < tasks; i++) end += (size_t)sprintf(plan + end, "T\ta\t0\tw1\tw2\tw3\tw4\n");
+    static const char round[] = "R\t1\n";
+    for (; end + strlen(round) <= SALFUNYE_TEXT_SIZE; end += strlen(round)) memcpy(plan + end, round, strlen(round));
+    *size = end;
+    return (uint8_t *)plan;
+}
+
+static void *run_longest(void *unused) {
+    size_t size;
+    uint8_t *plan = longest_plan(1, &size);
+    uint64_t *store = taken(SALFUNYE_STORE_SIZE * sizeof *store);
+    uint8_t *output = taken(SALFUNYE_REPORT_SIZE);
+    struct salfunye_ran ran = salfunye_run(plan, size, UINT64_MAX, store, SALFUNYE_STORE_SIZE, output, SALFUNYE_REPORT_SIZE);
+    EXPECT(ran.number == 0 && ran.length > 0);
+    free(output);
+    free(store);
+    free(plan);
+    return unused;
+}
+
+static void *chain_longest(void *unused) {
+    size_t size;
+    uint8_t *plan = longest_plan(128, &size);
+    uint8_t *output = taken(SALFUNYE_CHAIN_SIZE);
+    struct salfunye_written chain = salfunye_chain(plan, size, output, SALFUNYE_CHAIN_SIZE);
+    EXPECT(chain.number == 0 && chain.length > 0);
+    free(output);
+    free(plan);
+    return unused;
+}
+
+/* Calls on a thread that has so many bytes of stack; the thread itself and the guard under its stack need some too. */
+static void on_stack(size_t size, void *(*call)(void *)) {
+    enum { OF_THE_THREAD = 12288 };
+    pthread_attr_t attributes;
+    pthread_t thread;
+    EXPECT(pthread_attr_init(&attributes) == 0);
+    EXPECT(pthread_attr_setstacksize(&attributes, size + OF_THE_THREAD) == 0);
+    EXPECT(pthread_create(&thread, &attributes, call, NULL) == 0);
+    EXPECT(pthread_join(thread, NULL) == 0);
+    EXPECT(pthread_attr_destroy(&attributes) == 0);
+}
+
+/* as the header says; a call that needs more ends the program */
+static void stacks(void) {
+    on_stack(400000, run_longest);
+    on_stack(20000, chain_longest);
+}
+
 int main(void) {
     bench();
     converters();
@@ -379,6 +433,7 @@ int main(void) {
     busy("", true);
     busy("\t33\t1", true);
     lock();
+    stacks();
     if (failures == 0) puts("ok");
     return failures == 0 ? 0 : 1;
 }
